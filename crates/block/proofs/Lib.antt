@@ -1,0 +1,6 @@
+-- Laws of the summary, the cursor and the body.
+pub mod Summaries
+pub mod Steps
+pub mod Fillings
+pub mod Bodies
+pub mod Contents
