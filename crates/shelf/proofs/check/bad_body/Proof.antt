@@ -15,8 +15,8 @@ use borrow.Author.Tests.{not-true, not-false}
 use denote.Ref.{now}
 use lib.ListN.{length, drop}
 use borrow.Author.Needs.{needs}
-use Rattle.shelf.proofs.check.check.bad_body.Statement.{statement}
-use Rattle.shelf.proofs.check.check.bad_body.Tie as tie
+use Rattle.shelf.proofs.check.bad_body.Statement.{statement}
+use Rattle.shelf.proofs.check.bad_body.Tie as tie
 
 abbrev Inv-loop : tie.InvT-loop
 Inv-loop s start left₀ a₀ b₀ left a b =

@@ -2,8 +2,8 @@
 use Rattle.shelf.specs.declared.check.BadRead.the-variants.{BadAt, NoBad}
 use mathlib.Core.Path.{_≡_}
 use borrow.Author.Needs.{needs}
-use Rattle.shelf.proofs.check.check.bad_or.Statement.{statement}
-use Rattle.shelf.proofs.check.check.bad_or.Tie as tie
+use Rattle.shelf.proofs.check.bad_or.Statement.{statement}
+use Rattle.shelf.proofs.check.bad_or.Tie as tie
 
 enum-known-known : tie.Need-enum-known-known
 enum-known-known c = search needs

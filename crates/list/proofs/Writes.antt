@@ -22,10 +22,10 @@ use Rattle.block.specs.Summary.{sumBytes, summaryOf}
 use Rattle.block.specs.Body.{laterBytes, bodyBytes}
 use Rattle.block.proofs.Summaries.{Fitting, sum-is, sum-of, sum-size, right-sum}
 use Rattle.block.proofs.Bodies.{body-round, right-round}
 use Rattle.shelf.specs.Walk.{Block, Listing, headTerm, headCount, rightHead, oneSum, sums, oneBody, bodies, postsOf, blocksOf, list, onto, lists, walk}
 use Rattle.shelf.specs.Check.{badBody, badLists, checked}
-use Rattle.shelf.specs.Write.{packed, sumsBytes, bodiesBytes, blocksBytes, listBytes, Word, writing, Writable, Words}
+use Rattle.list.specs.Write.{packed, sumsBytes, bodiesBytes, blocksBytes, listBytes, Word, writing, Writable, Words}
 use Rattle.shelf.specs.declared.check.BadRead.the-variants.{NoBad}
 
 -- ---- blocks that may be written, the first after docid p
 

@@ -1,0 +1,3 @@
+-- What is written is sound, and holds what was written.
+pub mod Writes
+pub mod Marked

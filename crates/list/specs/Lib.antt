@@ -1,0 +1,2 @@
+-- The bytes of a list.
+pub mod Write

@@ -1,0 +1,1 @@
+// One posting list between bytes and runs: its reader and its writer.
