@@ -152,6 +152,41 @@ pub run-all : (m : Summary) (s : List ℕ) (ps : List Post) (k : ℕ) → bodyPo
 unfolding bodyPosts bodyRun
 run-all m s ps k e = rw e at (same (m .greatest) (m .count) true (m .least) s)
 
+-- ---- as many as the summary says
+
+abbrev Counted : ℕ → Read (List Post) → Type 0
+Counted n (got ps k) = length ps ≡ n
+Counted n (stopped k) = Unit {0}
+
+counted-cons : (n : ℕ) (p : Post) (k : ℕ) (r : Read (List Post)) → Counted n r → Counted (suc n) (further k (onto p r))
+counted-cons n p k (got ps j) e = ap suc e
+counted-cons n p k (stopped j) e = tt
+
+counted : (greatest n : ℕ) (first : Bool) (d : ℕ) (s : List ℕ) → Counted n (posts greatest n first d s)
+unfolding posts
+counted greatest zero first d [] = refl
+counted greatest zero first d (b ∷ s) = tt
+counted greatest (suc n) first d s = go (posting greatest first d s) (λ e k. counted greatest n false e (drop k s))
+  where
+    go : (r : Read Post) → ((e k : ℕ) → Counted n (posts greatest n false e (drop k s))) → Counted (suc n) (andOn r (λ p k. posts greatest n false (p .doc) (drop k s)))
+    go (stopped k) ih = tt
+    go (got p k) ih = counted-cons n p k (posts greatest n false (p .doc) (drop k s)) (ih (p .doc) k)
+
+all-counted : (m : Summary) (s : List ℕ) → Counted (m .count) (bodyPosts m s)
+unfolding bodyPosts
+all-counted m s = counted (m .greatest) (m .count) true (m .least) s
+
+-- a right body is read whole
+pub right-run : (m : Summary) (s : List ℕ) → rightBody m s ≡ true → (k : ℕ) × (bodyPosts m s ≡ got (bodyRun m s) k) × (length (bodyRun m s) ≡ m .count)
+unfolding rightBody
+right-run m s e = go (bodyPosts m s) refl (all-counted m s) e
+  where
+    go : (r : Read (List Post)) → bodyPosts m s ≡ r → Counted (m .count) r → fits (m .greatest) (m .top) 0 0 r ≡ true → (k : ℕ) × (bodyPosts m s ≡ got (bodyRun m s) k) × (length (bodyRun m s) ≡ m .count)
+    go (stopped k) q w f = absurd (false≢true f)
+    go (got ps k) q w f =
+        let e : bodyRun m s ≡ ps = run-all m s ps k q in
+        (k, rw e q, rw e w)
+
 -- ---- a right body: its postings, which are what its summary says, and whose bytes it is
 
 pub record Right (m : Summary) (s : List ℕ) : Type 0 where

@@ -3,17 +3,15 @@ use Prim.Native.Nat.{ℕ, _+_, _≤_, _<_, max}
 use native.Mathlib.Omega.{arith}
 use mathlib.Core.Path.{_≡_, refl, ap, _∙_}
 use mathlib.Core.List.{List, [], _∷_}
-use mathlib.Core.Bool.{_&&_, false}
-use lib.Dec.{eqb}
 use lib.ListN.{length, set, length-set}
-use Rattle.model.specs.Post.{Post, post, docs, scores}
+use Rattle.model.specs.Post.{docs, scores}
 use Rattle.model.specs.Runs.{Stored}
 use Rattle.model.proofs.Storing.{Rest, rest-start, rest-turn, rest-end}
-use Rattle.block.specs.Body.{fits, rightBody, bodyRun, ReadsInto}
+use Rattle.block.specs.Body.{fits, bodyRun, ReadsInto}
 use Rattle.block.specs.Cursor.{fresh, stepAt, postsAt, runAt}
 use Rattle.block.specs.declared.summary.Summary.{Summary}
 use Rattle.block.specs.declared.cursor.Cursor.{Cursor}
-use Rattle.block.specs.declared.cursor.Step.the-variants.{Posting, End, Bad}
+use Rattle.block.specs.declared.cursor.Step.the-variants.{Posting}
 use Rattle.block.proofs.Steps.{step-onward, fit-posting, run-posting}
 use Rattle.block.proofs.Bodies.{right-fresh}
 

@@ -48,7 +48,7 @@ pub fn read_body(s: &[u8], m: Summary, docs: &mut [u32], scores: &mut [u16], at:
     let top = m.top;
     let mut c = Cursor::new(m);
     let mut last: u32 = 0;
-    let mut most: u16 = 0;
+    let mut largest: u16 = 0;
     let mut i = at;
     loop {
         match c.next(s) {
@@ -57,13 +57,13 @@ pub fn read_body(s: &[u8], m: Summary, docs: &mut [u32], scores: &mut [u16], at:
                 scores[i] = points;
                 i += 1;
                 last = doc;
-                if most < points {
-                    most = points;
+                if largest < points {
+                    largest = points;
                 }
                 c = onward;
             }
             Step::End => {
-                return last == greatest && most == top;
+                return last == greatest && largest == top;
             }
             Step::Bad(place) => {
                 return false;

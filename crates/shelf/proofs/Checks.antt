@@ -68,7 +68,7 @@ module _ (n a b : ℕ) (s : List ℕ) where
   unfolding blocksOf
   bad-none h = let z : n ≡ 0 = omega arith in rw z
 
-blocks-more : (n a b : ℕ) (s : List ℕ) → 0 < n → blocksOf n a (drop a s) b (drop b s)
+pub blocks-more : (n a b : ℕ) (s : List ℕ) → 0 < n → blocksOf n a (drop a s) b (drop b s)
     ≡ record { at = a; sum = sumOf (drop a s); bodyAt = b; body = fieldValue (drop b s) }
     ∷ blocksOf (n - 1) (a + 12) (drop (a + 12) s) (b + (3 + fieldLen (drop b s))) (drop (b + (3 + fieldLen (drop b s))) s)
 unfolding blocksOf

@@ -2,14 +2,14 @@
 use Prim.Native.Nat.{_+_, _<_, max}
 use native.Mathlib.Nat.{max-eq-left, max-eq-right, le-of-lt}
 use native.Mathlib.Omega.{arith}
-use mathlib.Core.Path.{_≡_, refl, _∙_}
-use mathlib.Core.Bool.{Bool, _&&_, false}
+use mathlib.Core.Path.{_≡_}
+use mathlib.Core.Bool.{false}
 use borrow.Author.Tests.{eq-eqb, ne-eqb}
 use borrow.Author.Needs.{needs}
 use denote.Ref.{now}
 use lib.Dec.{eqb}
 use lib.ListN.{length, set}
-use Rattle.block.specs.Body.{fits, ReadsInto}
+use Rattle.block.specs.Body.{fits}
 use Rattle.block.specs.Cursor.{stepAt, postsAt}
 use Rattle.block.specs.declared.cursor.Step.the-variants.{Posting, End, Bad}
 use Rattle.block.proofs.Steps.{step-onward, fit-end, fit-bad, run-end, run-bad}
@@ -58,7 +58,7 @@ turned : (c : tie.After-known-told Inv-loop μ-loop) →
     let l = c .before .before .before .before .loop in
     Filling (now (a .s)) (a .m .greatest) (a .m .top) (c .before .before .before .before .before .new .result) (a .at) (now (a .docs)) (now (a .scores))
     (set (l .docs) (l .i) (c .before .doc .given .0 .0)) (set (l .scores) (l .i) (c .before .doc .given .0 .1 .0))
-    (c .before .doc .given .0 .1 .1 .0) (c .before .doc .given .0 .0) (max (l .most) (c .before .doc .given .0 .1 .0)) (l .i + 1)
+    (c .before .doc .given .0 .1 .1 .0) (c .before .doc .given .0 .0) (max (l .largest) (c .before .doc .given .0 .1 .0)) (l .i + 1)
 turned c = fill-turn (c .before .doc .given .0 .0) (c .before .doc .given .0 .1 .0) (c .before .doc .given .0 .1 .1 .0) (stepped c) (c .before .before .before .before .loop .inv)
 
 mul-docs : tie.Need-mul-docs Inv-loop μ-loop
@@ -102,8 +102,8 @@ returns c =
     let a = c .before .before .before .before .before .before .before .before .before .args in
     let l = c .before .before .before .before .loop in
     let f : stepAt (now (a .s)) (l .c) ≡ End = cc in
-    let e : fits (a .m .greatest) (a .m .top) (l .last) (l .most) (postsAt (now (a .s)) (l .c)) ≡ eqb (l .most) (a .m .top) = rw (fit-end (now (a .s)) (l .c) (a .m .greatest) (a .m .top) (l .last) (l .most) f, eq-eqb (l .last) (a .m .greatest) (c .if2 .taken)) in
-    rw e at (fill-done (now (a .s)) (a .m) (c .before .before .before .before .before .new .result) (a .at) (now (a .docs)) (now (a .scores)) (l .docs) (l .scores) (l .c) (l .last) (l .most) (l .i) (c .before .before .before .before .before .new .ensures) (run-end (now (a .s)) (l .c) f) (l .inv))
+    let e : fits (a .m .greatest) (a .m .top) (l .last) (l .largest) (postsAt (now (a .s)) (l .c)) ≡ eqb (l .largest) (a .m .top) = rw (fit-end (now (a .s)) (l .c) (a .m .greatest) (a .m .top) (l .last) (l .largest) f, eq-eqb (l .last) (a .m .greatest) (c .if2 .taken)) in
+    rw e at (fill-done (now (a .s)) (a .m) (c .before .before .before .before .before .new .result) (a .at) (now (a .docs)) (now (a .scores)) (l .docs) (l .scores) (l .c) (l .last) (l .largest) (l .i) (c .before .before .before .before .before .new .ensures) (run-end (now (a .s)) (l .c) f) (l .inv))
 
 same-length-3 : tie.Need-same-length-3 Inv-loop μ-loop
 same-length-3 c = c .before .before .before .before .loop .inv .docids .same
@@ -116,8 +116,8 @@ returns-2 c =
     let a = c .before .before .before .before .before .before .before .before .before .args in
     let l = c .before .before .before .before .loop in
     let f : stepAt (now (a .s)) (l .c) ≡ End = cc in
-    let e : fits (a .m .greatest) (a .m .top) (l .last) (l .most) (postsAt (now (a .s)) (l .c)) ≡ eqb (l .last) (a .m .greatest) = rw (fit-end (now (a .s)) (l .c) (a .m .greatest) (a .m .top) (l .last) (l .most) f, ne-eqb (l .last) (a .m .greatest) (c .if2 .left)) in
-    rw e at (fill-done (now (a .s)) (a .m) (c .before .before .before .before .before .new .result) (a .at) (now (a .docs)) (now (a .scores)) (l .docs) (l .scores) (l .c) (l .last) (l .most) (l .i) (c .before .before .before .before .before .new .ensures) (run-end (now (a .s)) (l .c) f) (l .inv))
+    let e : fits (a .m .greatest) (a .m .top) (l .last) (l .largest) (postsAt (now (a .s)) (l .c)) ≡ eqb (l .last) (a .m .greatest) = rw (fit-end (now (a .s)) (l .c) (a .m .greatest) (a .m .top) (l .last) (l .largest) f, ne-eqb (l .last) (a .m .greatest) (c .if2 .left)) in
+    rw e at (fill-done (now (a .s)) (a .m) (c .before .before .before .before .before .new .result) (a .at) (now (a .docs)) (now (a .scores)) (l .docs) (l .scores) (l .c) (l .last) (l .largest) (l .i) (c .before .before .before .before .before .new .ensures) (run-end (now (a .s)) (l .c) f) (l .inv))
 
 enum-known-place : tie.Need-enum-known-place Inv-loop μ-loop
 enum-known-place c = search needs
@@ -133,8 +133,8 @@ returns-3 c =
     let a = c .before .before .before .before .before .before .before .before .before .args in
     let l = c .before .before .before .before .loop in
     let f : stepAt (now (a .s)) (l .c) ≡ Bad (c .before .place .given .0 .0) = cc in
-    let e : fits (a .m .greatest) (a .m .top) (l .last) (l .most) (postsAt (now (a .s)) (l .c)) ≡ false = fit-bad (now (a .s)) (l .c) (a .m .greatest) (a .m .top) (l .last) (l .most) (c .before .place .given .0 .0) f in
-    rw e at (fill-done (now (a .s)) (a .m) (c .before .before .before .before .before .new .result) (a .at) (now (a .docs)) (now (a .scores)) (l .docs) (l .scores) (l .c) (l .last) (l .most) (l .i) (c .before .before .before .before .before .new .ensures) (run-bad (now (a .s)) (l .c) (c .before .place .given .0 .0) f) (l .inv))
+    let e : fits (a .m .greatest) (a .m .top) (l .last) (l .largest) (postsAt (now (a .s)) (l .c)) ≡ false = fit-bad (now (a .s)) (l .c) (a .m .greatest) (a .m .top) (l .last) (l .largest) (c .before .place .given .0 .0) f in
+    rw e at (fill-done (now (a .s)) (a .m) (c .before .before .before .before .before .new .result) (a .at) (now (a .docs)) (now (a .scores)) (l .docs) (l .scores) (l .c) (l .last) (l .largest) (l .i) (c .before .before .before .before .before .new .ensures) (run-bad (now (a .s)) (l .c) (c .before .place .given .0 .0) f) (l .inv))
 
 pub read-body-spec : {M : Type 1} → statement M
 read-body-spec =
