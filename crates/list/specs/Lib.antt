@@ -1,2 +1,4 @@
--- The bytes of a list.
+-- Reading a list (Read, Fill), the bytes of a list (Write).
+pub mod Read
+pub mod Fill
 pub mod Write

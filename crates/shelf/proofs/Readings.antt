@@ -42,8 +42,7 @@ module _ (s : List ℕ) (r : Reading) where
   unfolding blocksLeft
   left-more n z h e =
       let t = body-turn (r .left) (r .body) n (h .end) s (omega arith) e (h .bodied) in
-      let b : Block = record { at = r .sum; sum = sumOf (drop (r .sum) s); bodyAt = r .body; body = fieldValue (drop (r .body) s) } in
-      (
+      let b : Block = record { at = r .sum; sum = sumOf (drop (r .sum) s); bodyAt = r .body; body = fieldValue (drop (r .body) s) } in (
         b,
         refl,
         record {
