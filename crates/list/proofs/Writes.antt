@@ -58,12 +58,13 @@ later-few d (p ∷ ps) =
     let r = laterBytes (p .doc) ps in
     omega (arith, length-append g (be 2 (p .score) ++ r), length-append (be 2 (p .score)) r, be-length 2 (p .score), in-length 5 (p .doc - d - 1), later-few (p .doc) ps)
 
-body-few : (x : Post) (xs : List Post) → length (bodyBytes (x ∷ xs)) ≤ 7 * length (x ∷ xs)
+pub body-few : (ps : List Post) → length (bodyBytes ps) ≤ 7 * length ps
 unfolding bodyBytes
-body-few x xs = omega (arith, length-append (be 2 (x .score)) (laterBytes (x .doc) xs), be-length 2 (x .score), later-few (x .doc) xs)
+body-few [] = omega arith
+body-few (x ∷ xs) = omega (arith, length-append (be 2 (x .score)) (laterBytes (x .doc) xs), be-length 2 (x .score), later-few (x .doc) xs)
 
 body-short : (p : ℕ) (x : Post) (xs : List Post) → Fine p (x ∷ xs) → length (bodyBytes (x ∷ xs)) < 65536
-body-short p x xs f = omega (arith, body-few x xs, f .2)
+body-short p x xs f = omega (arith, body-few (x ∷ xs), f .2)
 
 -- ---- the summaries
 
@@ -190,7 +191,7 @@ module _ (t : ℕ) (bs : List (List Post)) (r : List ℕ) where
           le-leb (length bs) 64 few,
         )
 
-sums-size : (bs : List (List Post)) → length (sumsBytes bs) ≡ 12 * length bs
+pub sums-size : (bs : List (List Post)) → length (sumsBytes bs) ≡ 12 * length bs
 unfolding sumsBytes
 sums-size [] = omega arith
 sums-size (b ∷ bs) = omega (arith, length-append (sumBytes (summaryOf b)) (sumsBytes bs), sum-size (summaryOf b), sums-size bs)
@@ -315,7 +316,7 @@ unfolding lists
 none-more zero floor at = refl
 none-more (suc n) floor at = refl
 
-list-bytes : (t : ℕ) (ps : List Post) → listBytes t ps ≡ blocksBytes t (packed 64 ps)
+pub list-bytes : (t : ℕ) (ps : List Post) → listBytes t ps ≡ blocksBytes t (packed 64 ps)
 unfolding listBytes
 list-bytes t ps = refl
 

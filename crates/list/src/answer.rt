@@ -1,4 +1,6 @@
-// What a reader, a writer or an edit answers: how many postings or bytes, or the refusal's number and offset.
+// What an entry point answers that fills a lent run.
+
+// How many elements it wrote; or the refusal's number and offset.
 pub enum Answer {
     Done(usize),
     Refused(u8, usize),
