@@ -1,7 +1,7 @@
 // The checker as a program: standard input is a shelf of at most 65,536 bytes. Prints `sound`, or `R number offset`.
 use libc::STDIN_FILENO;
 use libc::STDOUT_FILENO;
-use shelf::walk::Checked;
+use shelf::check::Checked;
 
 // Prints a refusal's number and offset.
 fn refuse(number: u8, offset: usize) {

@@ -1,8 +1,8 @@
 -- Corner cases of the checker, by computation: one table, one statement. Assumes nothing.
-use Prim.Native.Nat.{ℕ, zero, suc, _+_}
+use Prim.Native.Nat.{ℕ, zero, suc}
 use mathlib.Core.Path.{_≡_, refl}
 use mathlib.Core.List.{List, [], _∷_, _++_, map}
-use lib.ListN.{length, take}
+use lib.ListN.{take}
 use Rattle.model.specs.Outcome.{Outcome, refused, done}
 use Rattle.wire.specs.Number.{num, be}
 use Rattle.wire.specs.Field.{fieldLen, whole, fieldValue, fieldBytes}

@@ -1,20 +1,32 @@
 -- The blocks of a list, one after another: what a reading place's step finds. Assumes nothing.
-use Prim.Native.Nat.{ℕ, _+_, _-_, _*_, _≤_, _<_}
+use Prim.Native.Nat.{ℕ, zero, suc, _+_, _-_, _≤_, _<_}
+use native.Mathlib.Numerals.{sub-one}
+use lib.Seq.{drop-drop}
 use native.Mathlib.Omega.{arith}
 use mathlib.Core.Path.{_≡_, refl, sym, ap, _∙_}
 use mathlib.Core.List.{List, [], _∷_}
 use lib.ListN.{length, take, drop}
-use Rattle.model.specs.Outcome.{done}
 use Rattle.wire.specs.Number.{num}
 use Rattle.wire.specs.Field.{fieldLen, fieldValue}
+use mathlib.Core.Bool.{Bool, true, false}
 use Rattle.block.specs.Summary.{sumOf}
-use Rattle.shelf.specs.Walk.{Block, bodies, blocksOf, blocksAt}
+use Rattle.block.specs.Body.{rightBody}
+use Rattle.block.specs.declared.summary.Summary.{Summary}
+use Rattle.shelf.specs.Check.{badBody}
+use Rattle.shelf.specs.declared.check.BadRead.the-variants.{BadAt, NoBad}
+use Rattle.shelf.specs.Walk.{Block, blocksOf, blocksAt}
 use Rattle.shelf.specs.Answers.{Ready}
 use Rattle.shelf.specs.Blocks.{readingOf, blocksLeft, Rests, Finds}
 use Rattle.shelf.specs.declared.walk.Place.{Place}
 use Rattle.shelf.specs.declared.blocks.Reading.{Reading}
 use Rattle.shelf.proofs.Walks.{body-room, body-turn}
-use Rattle.shelf.proofs.Checks.{blocks-more}
+
+blocks-more : (n a b : ℕ) (s : List ℕ) → 0 < n → blocksOf n a (drop a s) b (drop b s)
+    ≡ record { at = a; sum = sumOf (drop a s); bodyAt = b; body = fieldValue (drop b s) }
+    ∷ blocksOf (n - 1) (a + 12) (drop (a + 12) s) (b + (3 + fieldLen (drop b s))) (drop (b + (3 + fieldLen (drop b s))) s)
+unfolding blocksOf
+blocks-more zero a b s h = absurd (omega arith)
+blocks-more (suc n) a b s h = rw (sub-one, drop-drop 12 a s, drop-drop (3 + fieldLen (drop b s)) b s)
 
 -- a list that was walked, before its first block
 pub start-rests : (s : List ℕ) (p : Place) → Ready s p → Rests s (readingOf p)
@@ -55,3 +67,31 @@ module _ (s : List ℕ) (r : Reading) where
           body = sym (t .value);
         },
       )
+
+-- ---- the first wrong body
+
+-- the first wrong body of all blocks from b on is the first of those from r on
+pub record Judging (s : List ℕ) (b r : Reading) : Type 0 where
+  pub rests : Rests s r
+  pub first : badBody (blocksLeft s b) ≡ badBody (blocksLeft s r)
+
+pub judge-start : (s : List ℕ) (p : Place) (r : Reading) → Ready s p → r ≡ readingOf p → Judging s r r
+judge-start s p r h e = record { rests = rw e (start-rests s p h); first = refl }
+
+module _ (s : List ℕ) (o r : Reading) (b : Block) (v e : ℕ) (next : Reading) (m : Summary) (q : b .sum ≡ m) (f : Finds s r b v e next) (c : Judging s o r) where
+  judged-by : (t : Bool) → rightBody m (take (e - v) (drop v s)) ≡ t → rightBody (b .sum) (b .body) ≡ t
+  judged-by t h = rw (q, f .body) h
+
+  pub judge-right : rightBody m (take (e - v) (drop v s)) ≡ true → Judging s o next
+  judge-right h = record {
+    rests = f .rests;
+    first = c .first ∙ ap badBody (f .left) ∙ rw (judged-by true h);
+  }
+
+  pub judge-wrong : rightBody m (take (e - v) (drop v s)) ≡ false → badBody (blocksLeft s o) ≡ BadAt (v - 3)
+  judge-wrong h =
+      let at : b .bodyAt ≡ v - 3 = omega (arith, f .tag) in
+      c .first ∙ ap badBody (f .left) ∙ rw (judged-by false h, at)
+
+pub judge-none : (s : List ℕ) (o r : Reading) → blocksLeft s r ≡ [] → Judging s o r → badBody (blocksLeft s o) ≡ NoBad
+judge-none s o r e c = c .first ∙ ap badBody e

@@ -4,12 +4,11 @@ use native.Mathlib.Omega.{arith}
 use mathlib.Core.Path.{_≡_, refl, subst, _∙_}
 use mathlib.Core.List.{List, [], _∷_}
 use mathlib.Core.Bool.{true}
-use borrow.Author.Tests.{leb-true}
-use lib.Dec.{leb, eqb}
+use lib.Dec.{leb}
 use lib.ListN.{length, drop}
 use Rattle.model.specs.Outcome.{Outcome, refused, done, andThen}
 use Rattle.model.specs.Post.{Post, Rising, Scored, lastDoc}
-use Rattle.model.proofs.Lists.{split, and-true, All-append, Bytes, bytes-drop, bytes-take}
+use Rattle.model.proofs.Lists.{split, All-append, Bytes, bytes-drop, bytes-take}
 use Rattle.model.proofs.Posts.{rising-join, last-any}
 use Rattle.wire.specs.Field.{whole, fieldLen, fieldValue}
 use Rattle.block.specs.Summary.{isSum, sumOf, rightSum}
@@ -18,6 +17,7 @@ use Rattle.block.proofs.Summaries.{right-facts}
 use Rattle.block.proofs.Contents.{right-body}
 use Rattle.shelf.specs.Walk.{Block, Listing, postsOf, headTerm, headCount, rightHead, oneSum, sums, bodies, blocksOf, listed, list, onto, lists, walk}
 use Rattle.shelf.specs.Check.{badBody, orElse, badLists, verdict, checked}
+use Rattle.shelf.proofs.Walks.{head-facts}
 use Rattle.shelf.specs.declared.check.BadRead.{BadRead}
 use Rattle.shelf.specs.declared.check.BadRead.the-variants.{BadAt, NoBad}
 
@@ -52,19 +52,11 @@ abbrev GoodIf : (floor : ℕ) → Outcome Listing → Type 0
 GoodIf floor (refused n o) = Unit {0}
 GoodIf floor (done l) = (floor ≤ l .place .term) × (badBody (l .blocks) ≡ NoBad → Good 0 (l .blocks))
 
-head-above : (floor : ℕ) (s : List ℕ) → rightHead floor s ≡ true → floor ≤ headTerm s
-unfolding rightHead
-head-above floor s e =
-    let a = and-true (whole 1 s) _ e in
-    let b = and-true (eqb (fieldLen s) 5) _ (a .1) in
-    let c = and-true (leb floor (headTerm s)) _ (b .1) in
-    leb-true _ _ (c .0)
-
 list-good : (floor at : ℕ) (s : List ℕ) → Bytes s → GoodIf floor (list floor at s)
 unfolding list
 list-good floor at s h =
     split (rightHead floor s)
-    (λ r. rw r (onSums (head-above floor s r) (sums (headCount s) 0 (at + 8) (drop 8 s)) refl))
+    (λ r. rw r (onSums (head-facts floor s r .0) (sums (headCount s) 0 (at + 8) (drop 8 s)) refl))
     (λ r. rw r tt)
   where
     onBodies : (b : ℕ) → floor ≤ headTerm s → sums (headCount s) 0 (at + 8) (drop 8 s) ≡ done b → (r : Outcome ℕ) → GoodIf floor (andThen r (λ next. done (listed at next s)))

@@ -5,10 +5,11 @@ use native.Mathlib.Numerals.{sub-one}
 use mathlib.Core.Path.{_≡_, refl, sym, ap, _∙_}
 use mathlib.Core.List.{List, [], _∷_}
 use mathlib.Core.Bool.{true, false, cond, _&&_}
-use borrow.Author.Tests.{eqb-true, le-leb, lt-leb, eq-eqb, ne-eqb, lt-ltb, le-ltb}
+use borrow.Author.Tests.{leb-true, eqb-true, le-leb, lt-leb, eq-eqb, ne-eqb, lt-ltb, le-ltb}
 use lib.Dec.{leb, ltb, eqb}
 use lib.ListN.{length, getD, take, drop, length-drop}
 use lib.Seq.{drop-drop}
+use Rattle.model.specs.Limits.{perList}
 use Rattle.model.specs.Outcome.{Outcome, refused, done, andThen}
 use Rattle.model.proofs.Lists.{split, and-true, rest-cons, rest-none}
 use Rattle.wire.specs.Number.{num}
@@ -103,6 +104,16 @@ head-room floor s e =
     let a = and-true (whole 1 s) _ e in
     let b = and-true (eqb (fieldLen s) 5) _ (a .1) in
     omega (arith, whole-size 1 s (a .0), eqb-true (fieldLen s) 5 (b .0))
+
+-- what a right header says: its term is not below the floor, and it has at most 64 blocks
+pub head-facts : (floor : ℕ) (s : List ℕ) → rightHead floor s ≡ true → (floor ≤ headTerm s) × (headCount s ≤ perList)
+unfolding rightHead
+head-facts floor s e =
+    let a = and-true (whole 1 s) _ e in
+    let b = and-true (eqb (fieldLen s) 5) _ (a .1) in
+    let c = and-true (leb floor (headTerm s)) _ (b .1) in
+    let d = and-true (ltb 0 (headCount s)) _ (c .1) in
+    (leb-true _ _ (c .0), leb-true _ _ (d .1))
 
 -- ---- summaries at a place
 
@@ -235,16 +246,17 @@ list-parts floor at s h =
     rw (h, drop-drop 8 at s, drop-drop (8 + 12 * n) at s, q)
 
 -- what the walk knows of a list that begins at a place of the shelf s
-pub record Walked (s : List ℕ) (at : ℕ) (l : Listing) : Type 0 where
+pub record Walked (floor : ℕ) (s : List ℕ) (at : ℕ) (l : Listing) : Type 0 where
+  pub rise : floor ≤ l .place .term
   pub start : l .place .at ≡ at
   pub ready : Ready s (l .place)
   pub above : at < l .place .next
   pub within : l .place .next ≤ length s
   pub blocks : l .blocks ≡ blocksAt s at (l .place .count)
 
-abbrev Walking : List ℕ → ℕ → Outcome Listing → Type 0
-Walking s at (done l) = Walked s at l
-Walking s at (refused n o) = Unit {0}
+abbrev Walking : ℕ → List ℕ → ℕ → Outcome Listing → Type 0
+Walking floor s at (done l) = Walked floor s at l
+Walking floor s at (refused n o) = Unit {0}
 
 module _ (floor at : ℕ) (s : List ℕ) (h : rightHead floor (drop at s) ≡ true) where
   private-blocks : (next : ℕ) → listed at next (drop at s) .blocks ≡ blocksAt s at (headCount (drop at s))
@@ -255,7 +267,7 @@ module _ (floor at : ℕ) (s : List ℕ) (h : rightHead floor (drop at s) ≡ tr
       rw (drop-drop 8 at s, drop-drop (8 + 12 * n) at s, q)
 
   walking-bodies : (b : ℕ) → b ≡ at + 8 + 12 * headCount (drop at s) → 12 * headCount (drop at s) ≤ length (drop (at + 8) s) → (r : Outcome ℕ) →
-      bodies (headCount (drop at s)) b (drop (at + 8 + 12 * headCount (drop at s)) s) ≡ r → Walking s at (andThen r (λ next. done (listed at next (drop at s))))
+      bodies (headCount (drop at s)) b (drop (at + 8 + 12 * headCount (drop at s)) s) ≡ r → Walking floor s at (andThen r (λ next. done (listed at next (drop at s))))
   walking-bodies b q room (refused k o) e = tt
   walking-bodies b q room (done next) e =
       let n = headCount (drop at s) in
@@ -264,27 +276,28 @@ module _ (floor at : ℕ) (s : List ℕ) (h : rightHead floor (drop at s) ≡ tr
       let r8 = head-room floor (drop at s) h in
       let fit : at + 8 + 12 * n ≤ length s = omega (arith, length-drop (at + 8) s, length-drop at s) in
       record {
+        rise = head-facts floor (drop at s) h .0;
         start = refl;
-        ready = record { room = fit; bodied = f };
+        ready = record { few = head-facts floor (drop at s) h .1; room = fit; bodied = f };
         above = omega (arith, p .0);
         within = omega (arith, p .1, length-drop (at + 8 + 12 * n) s);
         blocks = private-blocks next;
       }
 
   walking-sums : (r : Outcome ℕ) → sums (headCount (drop at s)) 0 (at + 8) (drop (at + 8) s) ≡ r →
-      Walking s at (andThen r (λ b. andThen (bodies (headCount (drop at s)) b (drop (at + 8 + 12 * headCount (drop at s)) s)) (λ next. done (listed at next (drop at s)))))
+      Walking floor s at (andThen r (λ b. andThen (bodies (headCount (drop at s)) b (drop (at + 8 + 12 * headCount (drop at s)) s)) (λ next. done (listed at next (drop at s)))))
   walking-sums (refused k o) e = tt
   walking-sums (done b) e =
       let p = sums-place (headCount (drop at s)) 0 (at + 8) (drop (at + 8) s) b e in
       walking-bodies b (p .0) (p .1) (bodies (headCount (drop at s)) b (drop (at + 8 + 12 * headCount (drop at s)) s)) refl
 
-walking : (floor at : ℕ) (s : List ℕ) → Walking s at (list floor at (drop at s))
+walking : (floor at : ℕ) (s : List ℕ) → Walking floor s at (list floor at (drop at s))
 walking floor at s =
     split (rightHead floor (drop at s))
     (λ h. rw (list-parts floor at s h) (walking-sums floor at s h (sums (headCount (drop at s)) 0 (at + 8) (drop (at + 8) s)) refl))
     (λ h. rw (list-headless floor at (drop at s) h) tt)
 
-pub list-walked : (floor at : ℕ) (s : List ℕ) (l : Listing) → list floor at (drop at s) ≡ done l → Walked s at l
+pub list-walked : (floor at : ℕ) (s : List ℕ) (l : Listing) → list floor at (drop at s) ≡ done l → Walked floor s at l
 list-walked floor at s l e = rw e at (walking floor at s)
 
 -- ---- the lists from a place on

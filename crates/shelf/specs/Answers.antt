@@ -4,6 +4,7 @@ use mathlib.Core.Path.{_≡_}
 use mathlib.Core.List.{List}
 use mathlib.Core.Bool.{cond}
 use lib.ListN.{length, drop}
+use Rattle.model.specs.Limits.{perList}
 use Rattle.model.specs.Outcome.{Outcome, refused, done}
 use Rattle.shelf.specs.Walk.{Listing, headTerm, headCount, rightHead, bodies}
 use Rattle.shelf.specs.declared.walk.Place.{Place}
@@ -25,7 +26,14 @@ abbrev pub listOf : Outcome Listing → ListRead
 listOf (done l) = Is (l .place)
 listOf (refused n o) = Not n o
 
--- a list that was walked: there is room for its summaries, and its bodies are whole
-pub record Ready (s : List ℕ) (p : Place) : Type 0 where
-  pub room : p .at + 8 + 12 * p .count ≤ length s
-  pub bodied : bodies (p .count) (p .at + 8 + 12 * p .count) (drop (p .at + 8 + 12 * p .count) s) ≡ done (p .next)
+-- a list of `count` blocks that was walked: there is room for its summaries, and its bodies are whole, up to `next`
+pub record Stands (s : List ℕ) (at count next : ℕ) : Type 0 where
+  pub few : count ≤ perList
+  pub room : at + 8 + 12 * count ≤ length s
+  pub bodied : bodies count (at + 8 + 12 * count) (drop (at + 8 + 12 * count) s) ≡ done next
+
+abbrev pub Ready : List ℕ → Place → Type 0
+Ready s p = Stands s (p .at) (p .count) (p .next)
+
+abbrev pub ReadyAt : List ℕ → (at count : ℕ) → Type 0
+ReadyAt s at count = (next : ℕ) × Stands s at count next

@@ -7,8 +7,8 @@ use Rattle.block.specs.Body.{rightBody}
 use Rattle.shelf.specs.Walk.{Block, Listing, walk}
 use Rattle.shelf.specs.declared.check.BadRead.{BadRead}
 use Rattle.shelf.specs.declared.check.BadRead.the-variants.{BadAt, NoBad}
-use Rattle.shelf.specs.declared.walk.Checked.{Checked}
-use Rattle.shelf.specs.declared.walk.Checked.the-variants.{Sound, Fault}
+use Rattle.shelf.specs.declared.check.Checked.{Checked}
+use Rattle.shelf.specs.declared.check.Checked.the-variants.{Sound, Fault}
 
 -- the tag of a list's first wrong body
 abbrev pub badBody : List Block → BadRead

@@ -1,32 +1,28 @@
--- A list by its term. Assumes nothing.
+-- A list by its term: "a list shown in place 6/7, 12". Assumes nothing.
 use Prim.Native.Nat.{ℕ}
 use mathlib.Core.List.{List, [], _∷_}
 use mathlib.Core.Bool.{cond}
 use lib.Dec.{eqb}
-use Rattle.model.specs.Outcome.{Outcome, refused, done}
+use Rattle.model.specs.Outcome.{Outcome, refused, done, andThen}
 use Rattle.shelf.specs.Walk.{Listing, walk}
 use Rattle.shelf.specs.declared.walk.Place.{Place}
-use Rattle.shelf.specs.declared.find.FindRead.{FindRead}
-use Rattle.shelf.specs.declared.find.FindRead.the-variants.{Here, Absent, Stopped}
+use Rattle.shelf.specs.declared.find.Shown.{Shown}
+use Rattle.shelf.specs.declared.find.Shown.the-variants as shown
 
-abbrev pub matching : ℕ → Place → FindRead
-matching t p = cond (eqb (p .term) t) (Here p) Absent
+-- the list of term t; "list .. not there: 12"
+abbrev pub findOf : ℕ → List Listing → Outcome Listing
+findOf t [] = refused 12 0
+findOf t (l ∷ ls) = cond (eqb (l .place .term) t) (done l) (findOf t ls)
 
--- the first of two
-abbrev pub firstOf : FindRead → FindRead → FindRead
-firstOf (Here p) r = Here p
-firstOf Absent r = r
-firstOf (Stopped n o) r = Stopped n o
+unfoldable pub found : ℕ → List ℕ → Outcome Listing
+found t s = andThen (walk s) (λ ls. findOf t ls)
 
--- the list of term t
-abbrev pub findOf : ℕ → List Listing → FindRead
-findOf t [] = Absent
-findOf t (l ∷ ls) = firstOf (matching t (l .place)) (findOf t ls)
+-- what is answered: the list's place, or the refusal
+abbrev pub shownOf : Outcome Listing → Shown
+shownOf (done l) = shown.List (l .place)
+shownOf (refused n o) = shown.Refused n o
 
--- what is answered where `known` was found before and the lists r are left: a fault of the walk comes first
-abbrev pub findFrom : FindRead → ℕ → Outcome (List Listing) → FindRead
-findFrom known t (refused n o) = Stopped n o
-findFrom known t (done ls) = firstOf known (findOf t ls)
-
-unfoldable pub found : ℕ → List ℕ → FindRead
-found t s = findFrom Absent t (walk s)
+-- what is known after one list more: the first of the term stays
+abbrev pub hereOr : Shown → ℕ → Place → Shown
+hereOr (shown.List q) t p = shown.List q
+hereOr (shown.Refused n o) t p = cond (eqb (p .term) t) (shown.List p) (shown.Refused n o)

@@ -1,11 +1,14 @@
 // The checker: faults 6 and 7, then the first wrong body.
 ghost use mathlib.Core.Path.{_≡_};
+ghost use mathlib.Core.List.{[]};
 ghost use Rattle.shelf.specs.Walk.{blocksAt};
-ghost use Rattle.shelf.specs.Check.{badBody, orElse, judged, checked, paper};
+ghost use Rattle.shelf.specs.Check.{badBody, orElse, verdict, judged, checked, paper};
 ghost use Rattle.shelf.specs.Answers.{Ready};
-use crate::walk::Checked;
-use crate::walk::ListRead;
+use crate::blocks::BlockStep;
+use crate::blocks::Reading;
 use crate::walk::Place;
+use crate::walk::Walk;
+use crate::walk::WalkStep;
 
 // The tag of a wrong body; or there is none.
 pub enum BadRead {
@@ -14,26 +17,24 @@ pub enum BadRead {
 }
 
 // The first wrong body of a list that the walk found.
-fn bad_body(s: &[u8], list: Place) -> BadRead
+pub fn bad_body(s: &[u8], list: Place) -> BadRead
     requires { ⌜ Ready (now s) list ⌝ }
     ensures { λ r. ⌜ r ≡ badBody (blocksAt (now (s .entry)) (list .at) (list .count)) ⌝ }
 {
-    let start = list.at;
-    let mut left = list.count;
-    let mut a = start + 8;
-    let mut b = a + 12 * (left as usize);
-    while 0 < left {
-        let v = b + 3;
-        let e = v + wire::number::be2(s, b + 1) as usize;
-        let m = block::summary::summary_in(s, a);
-        if !block::body::right_body(&s[v..e], m) {
-            return BadRead::BadAt(b);
+    let mut r = Reading::new(list);
+    loop {
+        match r.next(s) {
+            BlockStep::Block(m, start, end, onward) => {
+                if !block::body::right_body(&s[start..end], m) {
+                    return BadRead::BadAt(start - 3);
+                }
+                r = onward;
+            }
+            BlockStep::Last => {
+                return BadRead::NoBad;
+            }
         }
-        a += 12;
-        b = e;
-        left -= 1;
     }
-    BadRead::NoBad
 }
 
 // A wrong body that is known, or else the list's first.
@@ -47,35 +48,40 @@ fn bad_or(known: BadRead, s: &[u8], list: Place) -> BadRead
     }
 }
 
+// What the checker answers: nothing found, or the refusal's number and offset.
+pub enum Checked {
+    Sound,
+    Fault(u8, usize),
+}
+
+// Number 8 at the wrong body's tag, if there is one.
+fn verdict_of(bad: BadRead) -> Checked
+    ensures { λ r. ⌜ paper r ≡ judged (verdict [] bad) ⌝ }
+{
+    match bad {
+        BadRead::BadAt(o) => Checked::Fault(8, o),
+        BadRead::NoBad => Checked::Sound,
+    }
+}
+
 // Checks a shelf: faults 6 and 7 first, then the first wrong body.
 pub fn check(s: &[u8]) -> Checked
     ensures { λ r. ⌜ paper r ≡ judged (checked (now (s .entry))) ⌝ }
 {
-    if model::MAX_SHELF < s.len() {
-        return Checked::Fault(6, 0);
-    }
+    let mut w = Walk::new();
     let mut bad = BadRead::NoBad;
-    let mut at = 0;
-    let mut floor: u64 = 0;
-    let mut left: u16 = model::MAX_LISTS;
-    while at < s.len() {
-        if left == 0 {
-            return Checked::Fault(6, at);
-        }
-        match crate::walk::list_at(s, at, floor) {
-            ListRead::Is(p) => {
+    loop {
+        match w.next(s) {
+            WalkStep::List(p, onward) => {
                 bad = bad_or(bad, s, p);
-                at = p.next;
-                floor = p.term as u64 + 1;
-                left -= 1;
+                w = onward;
             }
-            ListRead::Not(n, o) => {
+            WalkStep::End => {
+                return verdict_of(bad);
+            }
+            WalkStep::Fault(n, o) => {
                 return Checked::Fault(n, o);
             }
         }
-    }
-    match bad {
-        BadRead::BadAt(o) => Checked::Fault(8, o),
-        BadRead::NoBad => Checked::Sound,
     }
 }

@@ -1,9 +1,9 @@
 // The walk over a shelf's lists: faults 6 and 7, first in byte order.
 ghost use mathlib.Core.Path.{_≡_};
 ghost use lib.ListN.{drop};
-ghost use Rattle.shelf.specs.Walk.{sums, bodies, list, walk};
-ghost use Rattle.shelf.specs.Check.{judged, paper};
+ghost use Rattle.shelf.specs.Walk.{sums, bodies, list};
 ghost use Rattle.shelf.specs.Answers.{headAt, placeOf, listOf};
+ghost use Rattle.shelf.specs.Cursor.{start, walkStep};
 use block::summary::SummaryRead;
 use wire::field::FieldRead;
 
@@ -24,7 +24,7 @@ enum HeadRead {
 }
 
 // The place past what was read; or a refusal, its number and its offset.
-enum PlaceRead {
+pub enum PlaceRead {
     Past(usize),
     Refused(u8, usize),
 }
@@ -86,7 +86,7 @@ fn sums_at(s: &[u8], at: usize, n: u8) -> PlaceRead
 }
 
 // The bodies of a list's `n` blocks, of any length.
-fn bodies_at(s: &[u8], at: usize, n: u8) -> PlaceRead
+pub fn bodies_at(s: &[u8], at: usize, n: u8) -> PlaceRead
     ensures { λ r. ⌜ r ≡ placeOf (bodies n at (drop at (now (s .entry)))) ⌝ }
 {
     let mut p = at;
@@ -128,36 +128,57 @@ pub fn list_at(s: &[u8], at: usize, floor: u64) -> ListRead
 
 // ---- all lists
 
-// What the checker answers: nothing found, or the refusal's number and offset.
-pub enum Checked {
-    Sound,
+// A place in the walk: where the next list begins, the least term it may have, and how many lists may still come.
+pub struct Walk {
+    pub at: usize,
+    pub floor: u64,
+    pub left: u16,
+}
+
+// What the walk finds: a list and the walk past it; the shelf's end; or a refusal, its number and its offset.
+pub enum WalkStep {
+    List(Place, Walk),
+    End,
     Fault(u8, usize),
 }
 
-// The first fault of number 6 or 7.
-pub fn walk_shelf(s: &[u8]) -> Checked
-    ensures { λ r. ⌜ paper r ≡ judged (walk (now (s .entry))) ⌝ }
-{
-    if model::MAX_SHELF < s.len() {
-        return Checked::Fault(6, 0);
+impl Walk {
+    pub fn new() -> Walk
+        ensures { λ r. ⌜ r ≡ start ⌝ }
+    {
+        Walk {
+            at: 0,
+            floor: 0,
+            left: model::MAX_LISTS,
+        }
     }
-    let mut at = 0;
-    let mut floor: u64 = 0;
-    let mut left: u16 = model::MAX_LISTS;
-    while at < s.len() {
+
+    // The shelf's size is judged at each step, so that no walk can forget it.
+    pub fn next(self, s: &[u8]) -> WalkStep
+        ensures { λ r. ⌜ r ≡ walkStep (now (s .entry)) self ⌝ }
+    {
+        let at = self.at;
+        let floor = self.floor;
+        let left = self.left;
+        if model::MAX_SHELF < s.len() {
+            return WalkStep::Fault(6, 0);
+        }
+        if s.len() <= at {
+            return WalkStep::End;
+        }
         if left == 0 {
-            return Checked::Fault(6, at);
+            return WalkStep::Fault(6, at);
         }
         match list_at(s, at, floor) {
-            ListRead::Is(p) => {
-                at = p.next;
-                floor = p.term as u64 + 1;
-                left -= 1;
-            }
-            ListRead::Not(n, o) => {
-                return Checked::Fault(n, o);
-            }
+            ListRead::Is(p) => WalkStep::List(
+                p,
+                Walk {
+                    at: p.next,
+                    floor: p.term as u64 + 1,
+                    left: left - 1,
+                },
+            ),
+            ListRead::Not(n, o) => WalkStep::Fault(n, o),
         }
     }
-    Checked::Sound
 }
