@@ -131,7 +131,7 @@ blocks-round p a b ((x ∷ xs) ∷ bs) q r f =
     )
 
 -- every written body is right
-bad-round : (p a b : ℕ) (bs : List (List Post)) → Fines p bs → badBody (blocksFor a b bs) ≡ NoBad
+pub bad-round : (p a b : ℕ) (bs : List (List Post)) → Fines p bs → badBody (blocksFor a b bs) ≡ NoBad
 bad-round p a b [] f = refl
 bad-round p a b ([] ∷ bs) f = absurd (f .0)
 bad-round p a b ((x ∷ xs) ∷ bs) f =
@@ -246,7 +246,7 @@ abbrev pub joined : List (List Post) → List Post
 joined [] = []
 joined (b ∷ bs) = b ++ joined bs
 
-posts-round : (p a b : ℕ) (bs : List (List Post)) → Fines p bs → postsOf (blocksFor a b bs) ≡ joined bs
+pub posts-round : (p a b : ℕ) (bs : List (List Post)) → Fines p bs → postsOf (blocksFor a b bs) ≡ joined bs
 posts-round p a b [] f = refl
 posts-round p a b ([] ∷ bs) f = absurd (f .0)
 posts-round p a b ((x ∷ xs) ∷ bs) f =
@@ -255,7 +255,7 @@ posts-round p a b ((x ∷ xs) ∷ bs) f =
 
 -- ---- the writer's blocks
 
-packed-joined : (n : ℕ) (ps : List Post) → length ps ≤ 100 * n → joined (packed n ps) ≡ ps
+pub packed-joined : (n : ℕ) (ps : List Post) → length ps ≤ 100 * n → joined (packed n ps) ≡ ps
 unfolding packed
 packed-joined zero [] h = refl
 packed-joined zero (p ∷ ps) h = absurd (omega arith)
@@ -305,13 +305,13 @@ abbrev pub writtenFrom : ℕ → List Word → List Listing
 writtenFrom at [] = []
 writtenFrom at (w ∷ ws) = written (w .term) at (packed perList (w .posts)) ∷ writtenFrom (at + length (listBytes (w .term) (w .posts))) ws
 
-some-more : (n floor at : ℕ) (s : List ℕ) → 0 < length s →
+pub some-more : (n floor at : ℕ) (s : List ℕ) → 0 < length s →
     lists (suc n) floor at s ≡ andThen (list floor at s) (λ l. onto l (lists n (l .place .term + 1) (l .place .next) (drop (l .place .next - at) s)))
 unfolding lists
 some-more n floor at [] h = absurd (omega arith)
 some-more n floor at (b ∷ s) h = refl
 
-none-more : (n floor at : ℕ) → lists n floor at [] ≡ done []
+pub none-more : (n floor at : ℕ) → lists n floor at [] ≡ done []
 unfolding lists
 none-more zero floor at = refl
 none-more (suc n) floor at = refl

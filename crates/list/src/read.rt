@@ -4,10 +4,13 @@ ghost use Prim.Native.Nat.{_≤_};
 ghost use lib.ListN.{length};
 ghost use Rattle.shelf.specs.Walk.{blocksAt};
 ghost use Rattle.shelf.specs.Answers.{Ready};
-ghost use Rattle.list.specs.Read.{countOf};
+ghost use Rattle.list.specs.Read.{countOf, readBlocks, readList, Reads};
 ghost use Rattle.list.specs.Fill.{Fillable, Filled};
+use crate::answer::Answer;
 use shelf::blocks::BlockStep;
 use shelf::blocks::Reading;
+use shelf::check::BadRead;
+use shelf::find::Shown;
 use shelf::walk::Place;
 
 // How many postings a list's summaries say it has.
@@ -48,5 +51,35 @@ pub fn fill(s: &[u8], list: Place, docids: &mut [u32], scores: &mut [u16]) -> us
                 return i;
             }
         }
+    }
+}
+
+// The postings of a walked list: 8, then 9, then into the runs.
+fn read_place(s: &[u8], list: Place, docids: &mut [u32], scores: &mut [u16]) -> Answer
+    requires { ⌜ Ready (now s) list ⌝ }
+    ensures { λ r. ⌜ Reads (readBlocks (blocksAt (now (s .entry)) (list .at) (list .count)) (length (now (docids .entry))) (length (now (scores .entry)))) (now (docids .entry)) (now (scores .entry)) (now (docids .exit)) (now (scores .exit)) r ⌝ }
+{
+    match shelf::check::bad_body(s, list) {
+        BadRead::BadAt(o) => Answer::Refused(8, o),
+        BadRead::NoBad => {
+            let n = count(s, list);
+            if docids.len() < n {
+                return Answer::Refused(9, 0);
+            }
+            if scores.len() < n {
+                return Answer::Refused(9, 0);
+            }
+            Answer::Done(fill(s, list, docids, scores))
+        }
+    }
+}
+
+// Reads the list of a term into two runs, which a refusal leaves as they were.
+pub fn read_list(s: &[u8], term: u32, docids: &mut [u32], scores: &mut [u16]) -> Answer
+    ensures { λ r. ⌜ Reads (readList term (now (s .entry)) (length (now (docids .entry))) (length (now (scores .entry)))) (now (docids .entry)) (now (scores .entry)) (now (docids .exit)) (now (scores .exit)) r ⌝ }
+{
+    match shelf::find::find_list(s, term) {
+        Shown::List(list) => read_place(s, list, docids, scores),
+        Shown::Refused(n, o) => Answer::Refused(n, o),
     }
 }

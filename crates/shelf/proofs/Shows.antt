@@ -1,4 +1,4 @@
--- A list shown in place, by the tests that the code makes; and that it shows exactly the blocks of a list that was found. Assumes nothing.
+-- A list shown in place, by the tests that the code makes. Assumes nothing.
 use Prim.Native.Nat.{ℕ, _+_, _*_, _-_, _≤_, _<_}
 use native.Mathlib.Omega.{arith}
 use mathlib.Core.Path.{_≡_, refl}

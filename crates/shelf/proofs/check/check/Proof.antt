@@ -1,11 +1,10 @@
 -- `shelf::check::check` meets its contract. The invariant: the answer for all is the answer for the lists that are left, after the wrong body found.
 -- Assumes nothing.
-use Prim.Native.Nat.{_<_}
 use mathlib.Core.Path.{_≡_, sym, ap, _∙_}
 use denote.Ref.{now}
 use borrow.Author.Needs.{needs}
 use Rattle.shelf.specs.Check.{checked, judged}
-use Rattle.shelf.specs.Cursor.{walkStep, listsAt, listingAt}
+use Rattle.shelf.specs.Cursor.{walkStep, listsAt}
 use Rattle.shelf.specs.declared.walk.Walk.{Walk}
 use Rattle.shelf.specs.declared.check.BadRead.the-variants.{NoBad}
 use Rattle.shelf.specs.declared.walk.WalkStep.the-variants as step

@@ -1,7 +1,7 @@
 -- `shelf::check::verdict_of` meets its contract. Assumes nothing.
 use mathlib.Core.Path.{_≡_}
 use borrow.Author.Needs.{needs}
-use Rattle.shelf.specs.declared.check.BadRead.the-variants.{BadAt, NoBad}
+use Rattle.shelf.specs.declared.check.BadRead.the-variants.{BadAt}
 use Rattle.shelf.proofs.check.verdict_of.Statement.{statement}
 use Rattle.shelf.proofs.check.verdict_of.Tie as tie
 

@@ -1,16 +1,15 @@
 -- `shelf::find::body_shown` meets its contract: each return is a law of `Shows`. Assumes nothing.
 use borrow.Author.Needs.{needs}
 use Prim.Native.Nat.{_<_, _≤_}
-use mathlib.Core.Path.{_≡_, sym, ap, _∙_}
+use mathlib.Core.Path.{_≡_, sym, _∙_}
 use mathlib.Core.Bool.{true, false}
 use native.Mathlib.Omega.{arith}
 use borrow.Author.Tests.{not-true, not-false}
-use lib.ListN.{length}
+use lib.ListN.{length, drop}
 use denote.Ref.{now}
-use Rattle.shelf.specs.Show.{bodiesFrom, hasBlock, partAt, bodyShown}
+use Rattle.shelf.specs.Show.{bodiesFrom, hasBlock}
 use Rattle.shelf.specs.declared.find.Shown.the-variants as shown
 use Rattle.shelf.proofs.Shows.{has-facts, body-here, body-cut, body-none, body-refused}
-use lib.ListN.{drop}
 use Rattle.shelf.specs.Walk.{bodies}
 use Rattle.shelf.specs.Answers.{placeOf}
 use Rattle.shelf.specs.declared.walk.PlaceRead.the-variants.{Past, Refused}

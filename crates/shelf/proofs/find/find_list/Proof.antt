@@ -1,11 +1,10 @@
 -- `shelf::find::find_list` meets its contract. The invariant: the answer for all is the answer for the lists that are left, after what is known.
 -- Assumes nothing.
-use Prim.Native.Nat.{_<_}
 use mathlib.Core.Path.{_≡_, sym, ap, _∙_}
 use denote.Ref.{now}
 use borrow.Author.Needs.{needs}
 use Rattle.shelf.specs.Find.{found, shownOf}
-use Rattle.shelf.specs.Cursor.{walkStep, listsAt, listingAt}
+use Rattle.shelf.specs.Cursor.{walkStep, listsAt}
 use Rattle.shelf.specs.declared.walk.Walk.{Walk}
 use Rattle.shelf.specs.declared.find.Shown.the-variants as shown
 use Rattle.shelf.specs.declared.walk.WalkStep.the-variants as step

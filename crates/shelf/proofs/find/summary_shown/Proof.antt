@@ -1,13 +1,13 @@
 -- `shelf::find::summary_shown` meets its contract: each return is a law of `Shows`. Assumes nothing.
 use borrow.Author.Needs.{needs}
 use Prim.Native.Nat.{_<_, _≤_}
-use mathlib.Core.Path.{_≡_, sym, ap, _∙_}
+use mathlib.Core.Path.{_≡_, sym, _∙_}
 use mathlib.Core.Bool.{true, false}
 use native.Mathlib.Omega.{arith}
 use borrow.Author.Tests.{not-true, not-false}
 use lib.ListN.{length}
 use denote.Ref.{now}
-use Rattle.shelf.specs.Show.{bodiesFrom, hasBlock, summaryShown}
+use Rattle.shelf.specs.Show.{bodiesFrom, hasBlock}
 use Rattle.shelf.specs.declared.find.Shown.the-variants as shown
 use Rattle.shelf.proofs.Shows.{has-facts, summary-here, summary-none, summary-refused}
 use Rattle.shelf.proofs.find.summary_shown.Statement.{statement}

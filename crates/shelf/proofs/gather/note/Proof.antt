@@ -1,4 +1,4 @@
-use Prim.Native.Nat.{ℕ, _+_, _-_, _≤_, _<_}
+use Prim.Native.Nat.{_-_, _≤_, _<_}
 use native.Mathlib.Omega.{arith}
 use mathlib.Core.Path.{_≡_, refl, _∙_}
 use mathlib.Core.Logic.{⊎-elim}
@@ -9,8 +9,6 @@ use Rattle.shelf.specs.Gather.{noted}
 use Rattle.shelf.proofs.Gathers.{noted-here, noted-other}
 use Rattle.shelf.proofs.gather.note.Statement.{statement}
 use Rattle.shelf.proofs.gather.note.Tie as tie
-use Rattle.shelf.proofs.gather.note.Reads as reads
-use Rattle.shelf.proofs.gather.note.Lts as lts
 
 abbrev Inv-loop : tie.InvT-loop
 Inv-loop terms n list ats₀ counts₀ i₀ ats counts i = (i ≤ n) × (ats ≡ noted (list .term) (list .at) (take i terms) ats₀) × (counts ≡ noted (list .term) (list .count) (take i terms) counts₀)
