@@ -10,4 +10,5 @@ pub mod Canonical
 pub mod WritesBack
 pub mod Shelves
 pub mod Pieces
+pub mod ReadsBack
 pub mod Marked
