@@ -1,12 +1,11 @@
 -- What a list's reader answers, by the tests that its code makes. Assumes nothing.
-use Prim.Native.Nat.{ℕ, _+_, _≤_, _<_, min}
+use Prim.Native.Nat.{ℕ, _≤_, _<_, min}
 use native.Mathlib.Omega.{arith}
-use mathlib.Core.Path.{_≡_, refl, sym, ap, subst, _∙_}
-use mathlib.Core.List.{List, [], _∷_, _++_}
+use mathlib.Core.Path.{_≡_, refl, ap, _∙_}
+use mathlib.Core.List.{List, _++_}
 use borrow.Author.Tests.{le-leb, lt-leb}
-use lib.Dec.{leb}
 use lib.ListN.{length, drop}
-use Rattle.model.specs.Outcome.{Outcome, refused, done, andThen}
+use Rattle.model.specs.Outcome.{Outcome, refused, done}
 use Rattle.model.specs.Post.{Post, docs, scores}
 use Rattle.model.specs.Runs.{Stored}
 use Rattle.model.proofs.Lists.{map-length}
@@ -22,7 +21,6 @@ use Rattle.shelf.specs.declared.check.BadRead.the-variants.{BadAt, NoBad}
 use Rattle.list.specs.Answer.{Gives}
 use Rattle.list.specs.Read.{countOf, readBlocks, readList, Reads}
 use Rattle.list.specs.Fill.{Fillable, Filled}
-use Rattle.list.specs.declared.answer.Answer.{Answer}
 use Rattle.list.specs.declared.answer.Answer.the-variants.{Done, Refused}
 use Rattle.list.proofs.Pours.{right-count}
 

@@ -1,8 +1,8 @@
 -- Loops over a list's blocks: counting its postings, and pouring them into two runs. Assumes nothing.
-use Prim.Native.Nat.{ℕ, _+_, _-_, _*_, _≤_, _<_}
+use Prim.Native.Nat.{ℕ, _+_, _-_, _*_, _≤_}
 use native.Mathlib.Omega.{arith}
-use mathlib.Core.Path.{_≡_, refl, sym, ap, subst, _∙_}
-use mathlib.Core.Bool.{Bool, true, false, cond}
+use mathlib.Core.Path.{_≡_, refl, ap, _∙_}
+use mathlib.Core.Bool.{Bool, true}
 use mathlib.Core.List.{List, [], _∷_, _++_, map}
 use lib.ListN.{length, take, drop, length-append}
 use lib.Seq.{sets, length-sets}
@@ -10,7 +10,7 @@ use Rattle.model.specs.Post.{Post, docs, scores}
 use Rattle.model.specs.Runs.{Stored}
 use Rattle.model.proofs.Lists.{split, map-length}
 use Rattle.model.proofs.Storing.{Rest, rest-start, rest-turn, rest-end}
-use Rattle.block.specs.Body.{bodyPosts, bodyRun, rightBody, ReadsInto}
+use Rattle.block.specs.Body.{bodyRun, rightBody, ReadsInto}
 use Rattle.block.specs.declared.summary.Summary.{Summary}
 use Rattle.block.proofs.Contents.{right-run}
 use Rattle.shelf.specs.Walk.{Block, blocksAt, postsOf}

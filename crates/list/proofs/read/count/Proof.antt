@@ -1,6 +1,6 @@
 -- `list::read::count` meets its contract. The invariant: what was counted and what the blocks left say is all (`Pours`). Assumes nothing.
 use native.Mathlib.Omega.{arith}
-use mathlib.Core.Path.{_≡_, refl, sym, _∙_}
+use mathlib.Core.Path.{_≡_}
 use denote.Ref.{now}
 use borrow.Author.Needs.{needs}
 use Rattle.shelf.specs.Blocks.{blocksLeft, Steps}

@@ -1,6 +1,6 @@
 -- `list::read::fill` meets its contract. The invariant: the postings poured and those of the blocks left are all (`Pours`). Assumes nothing.
 use native.Mathlib.Omega.{arith}
-use mathlib.Core.Path.{_≡_, refl, sym, _∙_}
+use mathlib.Core.Path.{_≡_}
 use denote.Ref.{now}
 use borrow.Author.Needs.{needs}
 use Rattle.shelf.specs.Blocks.{blocksLeft, Steps}

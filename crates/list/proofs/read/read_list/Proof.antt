@@ -1,5 +1,5 @@
 -- `list::read::read_list` meets its contract: the refusal of finding the list, or what `read_place` answers. Assumes nothing.
-use mathlib.Core.Path.{_≡_, sym}
+use mathlib.Core.Path.{_≡_}
 use denote.Ref.{now}
 use lib.ListN.{length}
 use Rattle.shelf.specs.Find.{found, shownOf}

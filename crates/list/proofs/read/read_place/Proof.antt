@@ -1,7 +1,6 @@
 -- `list::read::read_place` meets its contract: each answer is a law of `Given` at the tests that led there. Assumes nothing.
-use Prim.Native.Nat.{_<_, _≤_, min}
 use native.Mathlib.Omega.{arith}
-use mathlib.Core.Path.{_≡_, sym, _∙_}
+use mathlib.Core.Path.{_≡_, sym}
 use denote.Ref.{now}
 use lib.ListN.{length}
 use Rattle.shelf.specs.Walk.{blocksAt}
