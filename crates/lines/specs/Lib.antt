@@ -1,0 +1,4 @@
+-- What the search program takes for its query, and what it prints.
+pub mod Split
+pub mod Text
+pub mod Book
