@@ -1,0 +1,63 @@
+//! Safe functions over the proved archive. Each reads only the slices it is given; an output stays as it was where the input is refused.
+
+pub mod raw;
+mod refusal;
+
+pub use refusal::Refusal;
+
+/// A call's answer: it was accepted where the number is 0, and `value` is then its result, otherwise the refusal's offset.
+fn answer(call: impl FnOnce(*mut u64) -> u32) -> Result<u64, Refusal> {
+    let mut value = 0;
+    match call(&mut value) {
+        0 => Ok(value),
+        number => Err(Refusal { number, offset: value }),
+    }
+}
+
+/// Whether a shelf is sound: numbers 6, 7, 8.
+pub fn check(shelf: &[u8]) -> Result<(), Refusal> {
+    // SAFETY: the slice lives through the call, which reads it and stores one number.
+    answer(|value| unsafe { raw::tagmurlen_check(shelf.as_ptr(), shelf.len(), value) }).map(drop)
+}
+
+/// How many rows a query wants, k: numbers 1 to 5.
+pub fn check_query(query: &[u8]) -> Result<usize, Refusal> {
+    // SAFETY: as in `check`.
+    answer(|value| unsafe { raw::tagmurlen_check_query(query.as_ptr(), query.len(), value) }).map(|k| k as usize)
+}
+
+/// Reads the list of a term to the front of two runs and gives how many postings there are: numbers 6, 7, 12, 8 (that list), 9.
+pub fn read_list(shelf: &[u8], term: u32, docids: &mut [u32], scores: &mut [u16]) -> Result<usize, Refusal> {
+    // SAFETY: the slices live through the call; both runs are borrowed alone, and the call stores within their lengths.
+    let read = answer(|value| unsafe {
+        raw::tagmurlen_read_list(
+            shelf.as_ptr(),
+            shelf.len(),
+            term,
+            docids.as_mut_ptr(),
+            docids.len(),
+            scores.as_mut_ptr(),
+            scores.len(),
+            value,
+        )
+    });
+    read.map(|postings| postings as usize)
+}
+
+/// Writes a list to the front of a buffer and gives its length: numbers 11, 10, 9.
+pub fn write_list(term: u32, docids: &[u32], scores: &[u16], out: &mut [u8]) -> Result<usize, Refusal> {
+    // SAFETY: the slices live through the call; `out` is borrowed alone, and the call stores within its length.
+    let written = answer(|value| unsafe {
+        raw::tagmurlen_write_list(
+            term,
+            docids.as_ptr(),
+            docids.len(),
+            scores.as_ptr(),
+            scores.len(),
+            out.as_mut_ptr(),
+            out.len(),
+            value,
+        )
+    });
+    written.map(|bytes| bytes as usize)
+}

@@ -1,0 +1,31 @@
+//! The archive's functions as they are, by `include/tagmurlen.h`. A slice is a pointer to its first element and how many there are.
+//!
+//! Each is safe to call with pointers and lengths of live slices, of which those that it may write overlap no other.
+
+unsafe extern "C" {
+    pub fn tagmurlen_check(shelf: *const u8, shelf_len: usize, value: *mut u64) -> u32;
+
+    pub fn tagmurlen_check_query(query: *const u8, query_len: usize, value: *mut u64) -> u32;
+
+    pub fn tagmurlen_read_list(
+        shelf: *const u8,
+        shelf_len: usize,
+        term: u32,
+        docids: *mut u32,
+        docids_len: usize,
+        scores: *mut u16,
+        scores_len: usize,
+        value: *mut u64,
+    ) -> u32;
+
+    pub fn tagmurlen_write_list(
+        term: u32,
+        docids: *const u32,
+        docids_len: usize,
+        scores: *const u16,
+        scores_len: usize,
+        out: *mut u8,
+        out_len: usize,
+        value: *mut u64,
+    ) -> u32;
+}

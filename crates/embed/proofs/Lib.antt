@@ -1,0 +1,2 @@
+-- The laws that the entry points' proofs cite.
+pub mod Reporting

@@ -1,0 +1,2 @@
+-- What a caller in C or Rust gets.
+pub mod Report

@@ -1,0 +1,23 @@
+/* Writes a list, checks the shelf that it is, and shows a refusal. From the repository's root:
+ *     rt staticlib embed && cc -Iinclude examples/embed.c target/staticlib/libembed.a -o target/embed && target/embed */
+#include "tagmurlen.h"
+#include <stdio.h>
+
+int main(void) {
+    const uint32_t sheets[] = {2, 4, 9};
+    const uint16_t scores[] = {5, 3, 1};
+    uint8_t shelf[64];
+    uint64_t value = 0;
+
+    uint32_t number = tagmurlen_write_list(7, sheets, 3, scores, 3, shelf, sizeof shelf, &value);
+    printf("written: %u, %llu bytes\n", number, (unsigned long long)value);
+    size_t length = value;
+
+    number = tagmurlen_check(shelf, length, &value);
+    printf("checked: %s\n", number == TAGMURLEN_ACCEPTED ? "sound" : "not sound");
+
+    shelf[18] = 9; /* the summary's greatest score, 5, is made larger than any score of the body */
+    number = tagmurlen_check(shelf, length, &value);
+    printf("changed: refused as %u at %llu\n", number, (unsigned long long)value);
+    return number == TAGMURLEN_BODY ? 0 : 1;
+}

@@ -1,0 +1,105 @@
+//! Tests of the harness itself, on random inputs: what the reference says in two ways must agree, and the benchmarks' measure with it.
+
+use crate::generate;
+use crate::reference::edit::{edit, Edit};
+use crate::reference::list::{pack, read_list, write_list};
+use crate::reference::prune::{search, Room};
+use crate::reference::rank::rank_all;
+use crate::reference::shelf::{check, walk};
+use crate::reference::{Refusal, MAX_SHELF};
+use crate::rng::Rng;
+use crate::tuned;
+use std::collections::BTreeMap;
+
+const ROUNDS: u64 = 300;
+
+fn pair(refusal: Refusal) -> (u32, usize) {
+    (refusal.number, refusal.offset)
+}
+
+#[test]
+fn pruned_is_exhaustive_on_sound_shelves() {
+    for seed in 0..ROUNDS {
+        let rng = &mut Rng::new(seed);
+        let (size, spread) = (generate::size(rng), generate::spread(rng));
+        let shelf = generate::shelf(rng, size, spread);
+        let terms: Vec<u32> = walk(&shelf).expect("sound").iter().map(|l| l.term).collect();
+        let query = generate::query(rng, &terms);
+        let found = search(&query, &shelf, Room { rows: 100, book: 1025 }).expect("accepted");
+        assert_eq!(Ok(found.hits), rank_all(&query, &shelf, 100), "seed {seed}");
+        assert!(found.book.firsts.len() <= 1025 && found.opened <= found.blocks, "seed {seed}");
+    }
+}
+
+#[test]
+fn the_measure_agrees_with_the_reference() {
+    for seed in 0..ROUNDS {
+        let rng = &mut Rng::new(seed);
+        let (size, spread) = (generate::size(rng), generate::spread(rng));
+        let mut shelf = generate::shelf(rng, size, spread);
+        for _ in 0..4 {
+            assert_eq!(tuned::check(&shelf), check(&shelf).map(drop).map_err(pair), "seed {seed}");
+            let term = rng.within(0, 3) as u32;
+            let (mut docids, mut scores) = (vec![0; 6_400], vec![0; 6_400]);
+            let read = tuned::list::read_list(&shelf, term, &mut docids, &mut scores);
+            let postings = read.map(|n| docids.into_iter().zip(scores).take(n).collect());
+            assert_eq!(postings, read_list(&shelf, term, 6_400, 6_400).map_err(pair), "seed {seed}");
+            shelf = generate::damage(rng, &shelf);
+        }
+        let (docids, scores) = generate::runs(rng);
+        let mut out = vec![0; 30_000];
+        let written = tuned::list::write_list(7, &docids, &scores, &mut out).map(|n| out[..n].to_vec());
+        assert_eq!(written, write_list(7, &docids, &scores, 30_000).map_err(pair), "seed {seed}");
+    }
+}
+
+#[test]
+fn the_measures_searches_agree_with_the_reference() {
+    for seed in 0..ROUNDS {
+        let rng = &mut Rng::new(seed);
+        let (size, spread) = (generate::size(rng), generate::spread(rng));
+        let mut shelf = generate::shelf(rng, size, spread);
+        let terms: Vec<u32> = walk(&shelf).expect("sound").iter().map(|l| l.term).collect();
+        for _ in 0..3 {
+            let query = generate::query(rng, &terms);
+            assert_eq!(tuned::search::rank_all(&query, &shelf, 100), rank_all(&query, &shelf, 100).map_err(pair), "seed {seed}");
+            let found = tuned::search::search(&query, &shelf, 100).map(|f| (f.hits, f.intervals, f.opened, f.blocks));
+            let reference = search(&query, &shelf, Room { rows: 100, book: 1025 });
+            let reference = reference.map(|f| (f.hits, f.book.firsts.len(), f.opened, f.blocks)).map_err(|s| pair(s.refusal));
+            assert_eq!(found, reference, "seed {seed}");
+            shelf = generate::damage(rng, &shelf);
+        }
+    }
+}
+
+/// Edits from the empty shelf: sound, with the postings that the accepted edits add up to, and the bytes of one writing of them.
+#[test]
+fn a_history_of_edits_is_one_writing() {
+    for seed in 0..ROUNDS {
+        let rng = &mut Rng::new(seed);
+        let mut shelf = Vec::new();
+        let mut held: BTreeMap<u32, BTreeMap<u32, u16>> = BTreeMap::new();
+        for _ in 0..rng.within(1, 60) {
+            let (term, docid, score) = (rng.within(1, 4) as u32, rng.within(0, 12) as u32, rng.within(0, 9) as u16);
+            let asked = [Edit::Set(term, docid, score), Edit::Clear(term, docid), Edit::Withdraw(docid)];
+            let asked = asked[rng.pick(&[0, 0, 0, 1, 2])];
+            let Ok(after) = edit(asked, &shelf, MAX_SHELF) else { continue };
+            shelf = after;
+            match asked {
+                Edit::Set(term, docid, score) => {
+                    held.entry(term).or_default().insert(docid, score);
+                }
+                Edit::Clear(term, docid) => held.entry(term).or_default().retain(|&d, _| d != docid),
+                Edit::Withdraw(docid) => held.values_mut().for_each(|list| list.retain(|&d, _| d != docid)),
+            }
+            held.retain(|_, list| !list.is_empty());
+        }
+        let writing: Vec<u8> = held.iter().flat_map(|(&t, list)| pack(t, &list.iter().map(|(&d, &s)| (d, s)).collect::<Vec<_>>())).collect();
+        assert_eq!(shelf, writing, "seed {seed}");
+        assert!(check(&shelf).is_ok(), "seed {seed}");
+        for (&term, list) in &held {
+            let postings: Vec<_> = list.iter().map(|(&d, &s)| (d, s)).collect();
+            assert_eq!(read_list(&shelf, term, 12, 12), Ok(postings), "seed {seed}");
+        }
+    }
+}

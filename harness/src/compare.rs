@@ -1,0 +1,99 @@
+//! Each entry point of the archive beside the reference: its answer, and every run that was lent to it.
+
+use crate::lent::Lent;
+use crate::reference::{list, query, shelf, Refusal};
+use tagmurlen::raw;
+
+/// What C gets: the number that is returned, and the value that is stored.
+pub type Answer = (u32, u64);
+
+/// How many answers and runs were compared, and how many differ.
+pub struct Tally {
+    pub compared: u64,
+    pub differ: u64,
+    /// What is being compared: a corner's name, or a seed to replay.
+    pub case: String,
+}
+
+impl Tally {
+    pub fn new() -> Tally {
+        Tally { compared: 0, differ: 0, case: String::new() }
+    }
+
+    /// Counts a comparison, and prints it where there is something wrong.
+    pub fn note(&mut self, what: &str, wrong: Option<String>) {
+        self.compared += 1;
+        if let Some(wrong) = wrong {
+            self.differ += 1;
+            println!("differs: {what}, {}: {wrong}", self.case);
+        }
+    }
+
+    pub fn answers(&mut self, what: &str, archive: Answer, reference: Answer) {
+        let wrong = (archive != reference).then(|| format!("archive {archive:?}, reference {reference:?}"));
+        self.note(what, wrong);
+    }
+}
+
+/// Calls with a place for the value that holds something else before.
+fn call(entry: impl FnOnce(*mut u64) -> u32) -> Answer {
+    let mut value = 0x5555_5555_5555_5555;
+    let number = entry(&mut value);
+    (number, value)
+}
+
+/// The reference's answer in the form that C gets.
+fn told<T>(outcome: &Result<T, Refusal>, value: impl FnOnce(&T) -> usize) -> Answer {
+    match outcome {
+        Ok(x) => (0, value(x) as u64),
+        Err(r) => (r.number, r.offset as u64),
+    }
+}
+
+pub fn check(t: &mut Tally, bytes: &[u8]) -> Answer {
+    let archive = call(|value| unsafe { raw::tagmurlen_check(bytes.as_ptr(), bytes.len(), value) });
+    t.answers("check", archive, told(&shelf::check(bytes), |_| 0));
+    archive
+}
+
+pub fn check_query(t: &mut Tally, bytes: &[u8]) -> Answer {
+    let archive = call(|value| unsafe { raw::tagmurlen_check_query(bytes.as_ptr(), bytes.len(), value) });
+    t.answers("check_query", archive, told(&query::read_query(bytes), |q| q.k.into()));
+    archive
+}
+
+pub fn read_list(t: &mut Tally, bytes: &[u8], term: u32, docid_room: usize, score_room: usize) -> Answer {
+    let mut docids: Lent<u32> = Lent::new(docid_room);
+    let mut scores: Lent<u16> = Lent::new(score_room);
+    let (d, s) = (docids.run(), scores.run());
+    let archive = call(|value| unsafe {
+        raw::tagmurlen_read_list(bytes.as_ptr(), bytes.len(), term, d.as_mut_ptr(), d.len(), s.as_mut_ptr(), s.len(), value)
+    });
+    let reference = list::read_list(bytes, term, docid_room, score_room);
+    t.answers("read_list", archive, told(&reference, Vec::len));
+    let (front_docids, front_scores): (Vec<u32>, Vec<u16>) = reference.unwrap_or_default().into_iter().unzip();
+    t.note("read_list's docids", docids.fault(&front_docids));
+    t.note("read_list's scores", scores.fault(&front_scores));
+    archive
+}
+
+pub fn write_list(t: &mut Tally, term: u32, docids: &[u32], scores: &[u16], room: usize) -> Answer {
+    let mut out: Lent<u8> = Lent::new(room);
+    let run = out.run();
+    let archive = call(|value| unsafe {
+        raw::tagmurlen_write_list(
+            term,
+            docids.as_ptr(),
+            docids.len(),
+            scores.as_ptr(),
+            scores.len(),
+            run.as_mut_ptr(),
+            run.len(),
+            value,
+        )
+    });
+    let reference = list::write_list(term, docids, scores, room);
+    t.answers("write_list", archive, told(&reference, Vec::len));
+    t.note("write_list's buffer", out.fault(&reference.unwrap_or_default()));
+    archive
+}

@@ -1,0 +1,67 @@
+//! The corners, then rounds of random inputs. `--seed N` and `--rounds N` choose them; without a seed it is taken from the clock.
+//! A round with number r uses the seed N + r, so that `--seed (N + r) --rounds 1` replays it alone. The last line is `N compared, D differ`.
+
+use harness::compare::{self, Tally};
+use harness::reference::shelf::walk;
+use harness::rng::Rng;
+use harness::{corners, generate};
+use std::time::{SystemTime, UNIX_EPOCH};
+
+fn main() {
+    let clock = SystemTime::now().duration_since(UNIX_EPOCH).map_or(1, |d| d.as_nanos() as u64 % 1_000_000_007);
+    let seed = option("--seed").unwrap_or(clock);
+    let rounds = option("--rounds").unwrap_or(2_000);
+    let mut tally = Tally::new();
+    corners::all(&mut tally);
+    println!("seed {seed}, {rounds} rounds");
+    for round in 0..rounds {
+        let seed = seed.wrapping_add(round);
+        tally.case = format!("replay with --seed {seed} --rounds 1");
+        one_round(&mut tally, &mut Rng::new(seed));
+    }
+    println!("{} compared, {} differ", tally.compared, tally.differ);
+    std::process::exit(i32::from(tally.differ > 0));
+}
+
+/// The number behind an option of the command line.
+fn option(name: &str) -> Option<u64> {
+    let mut words = std::env::args().skip_while(|w| w != name).skip(1);
+    words.next().map(|w| w.parse().unwrap_or_else(|_| panic!("{name} takes a number")))
+}
+
+/// Some of a shelf's lists and one that it has not, into runs that have room or have not.
+fn read_lists(t: &mut Tally, rng: &mut Rng, shelf: &[u8]) {
+    let lists = walk(shelf).unwrap_or_default();
+    for list in lists.iter().take(5) {
+        let held: usize = list.blocks.iter().map(|b| b.summary.count as usize).sum();
+        let docid_room = rng.pick(&[held, held, held + 1, held - 1, 6_400]);
+        let score_room = rng.pick(&[held, held, held + 3, 0, 6_400]);
+        compare::read_list(t, shelf, list.term, docid_room, score_room);
+    }
+    compare::read_list(t, shelf, rng.pick(&[0, 3, u32::MAX]), 5, 5);
+}
+
+/// A shelf, sound and damaged, a query, right and wrong, and a run to write.
+fn one_round(t: &mut Tally, rng: &mut Rng) {
+    let size = generate::size(rng);
+    let spread = generate::spread(rng);
+    let shelf = generate::shelf(rng, size, spread);
+    let (number, _) = compare::check(t, &shelf);
+    t.note("a generated shelf is sound", (number != 0).then(|| format!("refused as {number}")));
+    let mut damaged = shelf.clone();
+    for _ in 0..4 {
+        damaged = generate::damage(rng, &damaged);
+        compare::check(t, &damaged);
+        read_lists(t, rng, &damaged);
+    }
+    compare::check(t, &generate::noise(rng));
+    read_lists(t, rng, &shelf);
+
+    let terms: Vec<u32> = walk(&shelf).map_or(Vec::new(), |lists| lists.iter().map(|l| l.term).collect());
+    compare::check_query(t, &generate::query(rng, &terms));
+    compare::check_query(t, &generate::wrong_query(rng, &terms));
+
+    let (docids, scores) = generate::runs(rng);
+    let room = rng.pick(&[0, 25, 400, 30_000, 60_000]);
+    compare::write_list(t, rng.next() as u32, &docids, &scores, room);
+}

@@ -1,0 +1,64 @@
+/* Tagmurlen: a search over errata sheets, for programs in C. Link target/staticlib/libembed.a (made by `rt staticlib embed`, x86-64).
+ *
+ * Every function returns 0 when it accepts its input, or the number of a refusal (enum tagmurlen_refusal). It stores its result through `value`,
+ * or the refusal's offset. It reads only what is lent to it, allocates nothing, keeps nothing, and may be called from any number of threads.
+ *
+ * A pointer is followed by how many elements it points to. It must be aligned and not NULL, even for 0 elements, and what a function may write
+ * must not overlap anything else that is lent to the same call. A refusal leaves every output as it was. */
+#ifndef TAGMURLEN_H
+#define TAGMURLEN_H
+
+#include <stddef.h>
+#include <stdint.h>
+
+#ifdef __cplusplus
+extern "C" {
+#endif
+
+enum tagmurlen_limit {
+    TAGMURLEN_MAX_DOCID = 16777215,  /* sheet numbers (docids) are 1 to this */
+    TAGMURLEN_MAX_POSTINGS = 6400,   /* postings of a list */
+    TAGMURLEN_MAX_LISTS = 1024,      /* lists of a shelf */
+    TAGMURLEN_MAX_SHELF = 1048576,   /* bytes of a shelf */
+    TAGMURLEN_MAX_K = 100,           /* hits of a query */
+    TAGMURLEN_MAX_TERMS = 8,         /* terms of a query */
+    TAGMURLEN_MAX_INTERVALS = 1025   /* rows of a book */
+};
+
+enum tagmurlen_refusal {
+    TAGMURLEN_ACCEPTED = 0,
+    TAGMURLEN_QUERY_FIELDS = 1,   /* query fields wrong or cut short; at the first such field, or the query length */
+    TAGMURLEN_QUERY_K = 2,        /* k not 1 to 100; at 0 */
+    TAGMURLEN_QUERY_TERMS = 3,    /* no term, or more than 8; at the query length, or the ninth */
+    TAGMURLEN_QUERY_WEIGHT = 4,   /* weight 0; at the first such field */
+    TAGMURLEN_QUERY_REPEATED = 5, /* term twice; at the second of the first pair to close */
+    TAGMURLEN_SHELF_FIELDS = 6,   /* shelf over 1,048,576 bytes (at 0); field missing, unexpected, of wrong length or cut short; terms not rising;
+                                     block count not 1 to 64; 1,025th list; at its tag, or the shelf length where no byte is left */
+    TAGMURLEN_SUMMARY = 7,        /* wrong summary; at its tag */
+    TAGMURLEN_BODY = 8,           /* wrong body; at its tag */
+    TAGMURLEN_OUTPUT_SHORT = 9,   /* lent output too short; at 0 */
+    TAGMURLEN_POSTING = 10,       /* docid or score out of range; docids not rising; runs of unequal length; nothing to write; at the posting's
+                                     index, for unequal runs the shorter length, 0 in an edit or with nothing to write */
+    TAGMURLEN_LIMITS = 11,        /* result would pass 6,400 postings, 1,024 lists or 1,048,576 bytes; at 0 */
+    TAGMURLEN_NOT_THERE = 12      /* list, block or posting not there; a withdrawn docid in no list; at 0 */
+};
+
+/* Checks a shelf: 6, 7, 8. Stores 0 for a sound shelf. */
+uint32_t tagmurlen_check(const uint8_t *shelf, size_t shelf_len, uint64_t *value);
+
+/* Checks a query: 1 to 5. Stores k, the rows that a search wants lent, for a right query. */
+uint32_t tagmurlen_check_query(const uint8_t *query, size_t query_len, uint64_t *value);
+
+/* Reads the list of a term to the front of two runs, docids beside scores: 6, 7, 12, 8 (that list), 9. Stores how many postings there are. */
+uint32_t tagmurlen_read_list(const uint8_t *shelf, size_t shelf_len, uint32_t term, uint32_t *docids, size_t docids_len,
+                             uint16_t *scores, size_t scores_len, uint64_t *value);
+
+/* Writes a list to the front of `out`: 11, 10, 9. Stores how many bytes it wrote. */
+uint32_t tagmurlen_write_list(uint32_t term, const uint32_t *docids, size_t docids_len, const uint16_t *scores, size_t scores_len,
+                              uint8_t *out, size_t out_len, uint64_t *value);
+
+#ifdef __cplusplus
+}
+#endif
+
+#endif
