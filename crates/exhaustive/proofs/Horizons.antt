@@ -98,9 +98,10 @@ pub behind-skip : (s : List ℕ) (e : ℕ) (us : List Term) (ls : List Left) →
 behind-skip s e [] ls w = tt
 behind-skip s e (u ∷ us) [] w = tt
 behind-skip s e (u ∷ us) (l ∷ ls) w =
-    let b = w .0 in
-    (record { rising = rising-below 0 e (u .posts) (b .rising); upto = upto-below (λ (p : Post). p .doc ≤ l .top) e (u .posts) (b .upto); below = b .below; rests = b .rests; chain = b .chain },
-    behind-skip s e us ls (w .1))
+    let b = w .0 in (
+      record { rising = rising-below 0 e (u .posts) (b .rising); upto = upto-below (λ (p : Post). p .doc ≤ l .top) e (u .posts) (b .upto); below = b .below; rests = b .rests; chain = b .chain },
+      behind-skip s e us ls (w .1),
+    )
 
 -- ---- the horizon
 size-le : (e : ℕ) (ps : List Post) → length (dropBelow e ps) ≤ length ps

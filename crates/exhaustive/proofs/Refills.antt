@@ -75,8 +75,13 @@ module _ (s ds ss : List ℕ) (t : ℕ) (h : Head) (l : Left) (w : Line s ds ss 
 
     pub load-ok : Loadable m t ds ss
     load-ok = record {
-      some = facts .some; most = facts .most; order = facts .order; below = low;
-      mine = w .mine; docids = w .inside .docids; scored = w .inside .scored;
+      some = facts .some;
+      most = facts .most;
+      order = facts .order;
+      below = low;
+      mine = w .mine;
+      docids = w .inside .docids;
+      scored = w .inside .scored;
     }
 
     body-right : rightBody m body ≡ true → bodyOf b ≡ done (bodyRun m body)

@@ -19,8 +19,6 @@ use Rattle.shelf.specs.Blocks.{blocksLeft, Rests}
 use Rattle.shelf.specs.declared.blocks.Reading.{Reading}
 use Rattle.rank.specs.Keep.{keptOf}
 use Rattle.rank.specs.Match.{Term, anyList}
-
-
 use Rattle.rank.specs.Run as run
 use Rattle.prune.specs.Cut.{Block, Listing}
 use Rattle.prune.specs.Prune.{postsOf, faultIn, faultAll, earlier, exhaustive}

@@ -35,13 +35,7 @@ fn refuse(number: u8, at: usize) -> Ranked
 }
 
 // The ranking of lists that were found, or the first wrong body among theirs.
-fn rank_found(
-    shelf: &[u8],
-    ats: [usize; 8],
-    counts: [u8; 8],
-    weights: [u8; 8],
-    k: usize,
-) -> Ranked
+fn rank_found(shelf: &[u8], ats: [usize; 8], counts: [u8; 8], weights: [u8; 8], k: usize) -> Ranked
     requires { ⌜ Mergeable (now shelf) ats counts k ⌝ }
     ensures { λ r. ⌜ Answers (exhaustive anyList k (listsFrom (now (shelf .entry)) weights ats counts)) r ⌝ }
 {

@@ -1,4 +1,4 @@
--- The lists of a search's terms, as the walk goes on; and that what was found stands in the shelf. Assumes nothing.
+-- The lists of a search's terms, as the walk goes on. Assumes nothing.
 use Prim.Native.Nat.{ℕ, zero, suc, _+_, _-_, _≤_, _<_}
 use native.Mathlib.Omega.{arith}
 use native.Mathlib.Numerals.{add-one}
@@ -59,9 +59,9 @@ ahead-onto : (passed : List Listing) (l : Listing) (r : Outcome (List Listing)) 
 ahead-onto passed l (refused n o) = refl
 ahead-onto passed l (done ls) = ap {B = Outcome (List Listing)} (λ x. done x) (sym (append-assoc passed (l ∷ []) ls))
 
-ahead-none : (s : List ℕ) (r : Outcome (List Listing)) → r ≡ ahead [] r
-ahead-none s (refused n o) = refl
-ahead-none s (done ls) = refl
+ahead-none : (r : Outcome (List Listing)) → r ≡ ahead [] r
+ahead-none (refused n o) = refl
+ahead-none (done ls) = refl
 
 -- the list of a term, with one list more of a higher term
 term-more : (x : ℕ) (passed : List Listing) (l : Listing) → All (λ m. m .place .term < l .place .term) passed →
@@ -119,7 +119,7 @@ module _ (s terms : List ℕ) (n : ℕ) where
   noting-start w e h k =
       record {
         passed = [];
-        walks = walk-start s ∙ rw e (ahead-none s (listsAt s start));
+        walks = walk-start s ∙ rw e (ahead-none (listsAt s start));
         low = tt;
         ats = start-each (λ (p : Place). p .at) terms n refl h k;
         counts = start-each (λ (p : Place). p .count) terms n refl h k;

@@ -64,8 +64,8 @@ nth-body (suc n) a b (suc j) end m s h =
     rw (drop-drop k b s, bodies-step (suc j) b s (omega arith) w, sub-one, ltb-suc j n) (nth-body n (a + 12) (b + k) j end (drop 12 m) s rest)
 
 -- a body's bytes stand in the shelf past its tag and its length
-abbrev Stored : List ℕ → Block → Type 0
-Stored s b = take (length (b .body)) (drop (b .bodyAt + 3) s) ≡ b .body
+abbrev InShelf : List ℕ → Block → Type 0
+InShelf s b = take (length (b .body)) (drop (b .bodyAt + 3) s) ≡ b .body
 
 value-stands : (s : List ℕ) (b : ℕ) → whole 3 (drop b s) ≡ true → take (length (fieldValue (drop b s))) (drop (b + 3) s) ≡ fieldValue (drop b s)
 unfolding fieldValue
@@ -73,7 +73,7 @@ value-stands s b w =
     let e : length (take (fieldLen (drop b s)) (drop 3 (drop b s))) ≡ fieldLen (drop b s) = value-length 3 (drop b s) w in
     rw (e, drop-drop 3 b s)
 
-bodies-stand : (n a b end : ℕ) (m s : List ℕ) → bodies n b (drop b s) ≡ done end → All (Stored s) (blocksOf n a m b (drop b s))
+bodies-stand : (n a b end : ℕ) (m s : List ℕ) → bodies n b (drop b s) ≡ done end → All (InShelf s) (blocksOf n a m b (drop b s))
 unfolding blocksOf
 bodies-stand zero a b end m s h = tt
 bodies-stand (suc n) a b end m s h =
@@ -115,4 +115,4 @@ module _ (t : ℕ) (s : List ℕ) (l : Listing) (e : found t s ≡ done l) (j : 
       let k = found-stands t s l e in
       let p = l .place in
       let f : blockOf (blocksAt s (p .at) (p .count)) j ≡ done b = sym (ap (λ (x : List Block). blockOf x j) (k .blocks)) ∙ q in
-      block-has (Stored s) (blocksAt s (p .at) (p .count)) j b f (bodies-stand (p .count) (p .at + 8) (bodiesFrom p) (p .next) (drop (p .at + 8) s) s (k .ready .bodied))
+      block-has (InShelf s) (blocksAt s (p .at) (p .count)) j b f (bodies-stand (p .count) (p .at + 8) (bodiesFrom p) (p .next) (drop (p .at + 8) s) s (k .ready .bodied))

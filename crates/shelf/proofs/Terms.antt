@@ -1,18 +1,39 @@
 -- What `find_terms` found in a shelf whose walk is not refused: it may be gathered, and its lists are those of the query's terms. Assumes nothing.
 use Prim.Native.Nat.{ℕ, zero, suc, _-_, _≤_, _<_}
 use native.Mathlib.Omega.{arith}
-use mathlib.Core.Path.{_≡_, refl, sym, ap₂, _∙_}
+use mathlib.Core.Path.{_≡_, refl, sym, ap, ap₂, _∙_}
 use mathlib.Core.List.{List, [], _∷_, _++_, map, map-append}
 use lib.ListN.{length, getD, take, replicate}
 use lib.Seq.{length-take-le, getD-take, take-suc}
 use Rattle.model.specs.Limits.{maxTerms}
-use Rattle.model.specs.Outcome.{done}
+use Rattle.model.specs.Outcome.{Outcome, refused, done}
 use Rattle.shelf.specs.Walk.{Listing, blocksAt, walk}
+use Rattle.shelf.specs.Check.{judged, paper}
 use Rattle.shelf.specs.Gather.{placeAt, termBlocks, each, Finds}
 use Rattle.shelf.specs.Table.{foundLists, Gatherable}
+use Rattle.shelf.specs.declared.check.Checked.the-variants.{Sound, Fault}
 use Rattle.shelf.specs.declared.walk.Place.{Place}
 use Rattle.shelf.specs.declared.gather.Found.{Found}
 use Rattle.shelf.proofs.Stands.{walk-size, term-blocks, term-ready}
+
+-- ---- from the verdict back to the walk
+
+judged-done : (r : Outcome (List Listing)) → judged r ≡ done tt → (ls : List Listing) × (r ≡ done ls)
+judged-done (done ls) e = (ls, refl)
+judged-done (refused n o) e = let z : _≡_ {A = ℕ} 0 1 = cc in absurd (omega arith)
+
+judged-refused : (r : Outcome (List Listing)) (k o : ℕ) → judged r ≡ refused k o → r ≡ refused k o
+judged-refused (done ls) k o e = let z : _≡_ {A = ℕ} 0 1 = cc in absurd (omega arith)
+judged-refused (refused n m) k o e = let f : n ≡ k = cc in let g : m ≡ o = cc in rw (f, g)
+
+module _ (s terms : List ℕ) (n : ℕ) (r : Found) (f : Finds s terms n r) where
+  pub found-walk : r .verdict ≡ Sound → (ls : List Listing) × (walk s ≡ done ls)
+  found-walk e = judged-done (walk s) (sym (f .verdict) ∙ ap paper e)
+
+  pub found-fault : (k o : ℕ) → r .verdict ≡ Fault k o → walk s ≡ refused k o
+  found-fault k o e = judged-refused (walk s) k o (sym (f .verdict) ∙ ap paper e)
+
+-- ---- what was found, term by term
 
 map-at : (g : ℕ → ℕ) (xs zs : List ℕ) (i : ℕ) → i < length xs → getD (map g xs ++ zs) i 0 ≡ g (getD xs i 0)
 map-at g [] zs i h = absurd (omega arith)

@@ -81,8 +81,7 @@ loop-again c =
     let zero : 0 + t ≡ t = omega arith in
     let head : startHead t (getD (st .args .t3) t 0) ≡ getD (startHeads 0 (st .args .t3)) t blank = rw zero at (heads-at 0 t (st .args .t3) (omega arith)) in
     let left : record { blocks = c .reading-at2 .result; top = 0 } ≡ getD (startLefts (st .args .t1) (st .args .t2)) t noLeft =
-    ap {B = Left} (λ r. record { blocks = r; top = 0 }) (c .reading-at2 .ensures) ∙ lefts-at t (st .args .t1) (st .args .t2) (omega arith) (omega arith) in
-    (
+    ap {B = Left} (λ r. record { blocks = r; top = 0 }) (c .reading-at2 .ensures) ∙ lefts-at t (st .args .t1) (st .args .t2) (omega arith) (omega arith) in (
       omega arith,
       length-set (at .loop .hs) t _ ∙ at .loop .inv .1,
       length-set (at .loop .ls) t _ ∙ at .loop .inv .2,

@@ -1,4 +1,4 @@
--- `shelf::bad_or` meets its contract. Assumes nothing.
+-- `shelf::check::bad_or` meets its contract. Assumes nothing.
 use Rattle.shelf.specs.declared.check.BadRead.the-variants.{BadAt, NoBad}
 use mathlib.Core.Path.{_≡_}
 use borrow.Author.Needs.{needs}

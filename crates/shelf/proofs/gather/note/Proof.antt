@@ -1,3 +1,4 @@
+-- `shelf::gather::note` meets its contract. The invariant: the list is noted for the terms before i. Assumes nothing.
 use Prim.Native.Nat.{_-_, _≤_, _<_}
 use native.Mathlib.Omega.{arith}
 use mathlib.Core.Path.{_≡_, refl, _∙_}
@@ -16,39 +17,30 @@ Inv-loop terms n list ats₀ counts₀ i₀ ats counts i = (i ≤ n) × (ats ≡
 abbrev μ-loop : tie.MeasureT-loop
 μ-loop terms n list ats₀ counts₀ i₀ ats counts i = n - i
 
--- src/gather.rt:31:5
 loop-holds : tie.Need-loop-holds Inv-loop μ-loop
 loop-holds c = (omega arith, refl, refl)
 
--- src/gather.rt:32:12
 mul-if1 : tie.Need-mul-if1 Inv-loop μ-loop
 mul-if1 c = search needs
 
--- src/gather.rt:32:12
 element-copy-out-if1 : tie.Need-element-copy-out-if1 Inv-loop μ-loop
 element-copy-out-if1 c = search needs
 
--- src/gather.rt:33:13
 mul-ats : tie.Need-mul-ats Inv-loop μ-loop
 mul-ats c = search needs
 
--- src/gather.rt:33:13
 element-write-ats : tie.Need-element-write-ats Inv-loop μ-loop
 element-write-ats c = search needs
 
--- src/gather.rt:34:13
 element-write-counts : tie.Need-element-write-counts Inv-loop μ-loop
 element-write-counts c = search needs
 
--- src/gather.rt:36:9
 add-i : tie.Need-add-i Inv-loop μ-loop
 add-i c = search needs
 
--- src/gather.rt:31:5
 loop-less : tie.Need-loop-less Inv-loop μ-loop
 loop-less c = search needs
 
--- src/gather.rt:31:5
 loop-again : tie.Need-loop-again Inv-loop μ-loop
 loop-again c =
     let a = c .before .before .before .before .before .args in
@@ -67,7 +59,6 @@ loop-again c =
     ))
     (c .if1 .came)
 
--- src/gather.rt:20:1
 returns : tie.Need-returns Inv-loop μ-loop
 returns c =
     let l = c .before .loop in

@@ -1,4 +1,4 @@
--- `shelf::bodies_at` meets its contract. The invariant: the answer for all is the answer for those that are left. Assumes nothing.
+-- `shelf::walk::bodies_at` meets its contract. The invariant: the answer for all is the answer for those that are left. Assumes nothing.
 use Rattle.wire.specs.Field.{fieldAt}
 use Rattle.wire.specs.declared.field.FieldRead.the-variants.{Whole, Missing}
 use Rattle.wire.proofs.Fields.{field-room, field-is, field-not}

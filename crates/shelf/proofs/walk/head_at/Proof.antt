@@ -1,4 +1,4 @@
--- `shelf::head_at` meets its contract: each return is a law of `Walks` at the tests that led there. Assumes nothing.
+-- `shelf::walk::head_at` meets its contract: each return is a law of `Walks` at the tests that led there. Assumes nothing.
 use Rattle.wire.specs.Field.{fieldAt}
 use Rattle.wire.specs.declared.field.FieldRead.the-variants.{Whole, Missing}
 use Rattle.wire.proofs.Fields.{field-room}

@@ -1,4 +1,4 @@
--- `shelf::list_at` meets its contract: each return is a law of `Walks` at what its parts were found to be. Assumes nothing.
+-- `shelf::walk::list_at` meets its contract: each return is a law of `Walks` at what its parts were found to be. Assumes nothing.
 use Rattle.shelf.specs.Walk.{sums, bodies}
 use Rattle.shelf.specs.Answers.{headAt, placeOf}
 use Rattle.shelf.specs.declared.walk.HeadRead.the-variants.{Head, NoHead}

@@ -1,4 +1,4 @@
--- `shelf::sums_at` meets its contract. The invariant: the answer for all is the answer for those that are left. Assumes nothing.
+-- `shelf::walk::sums_at` meets its contract. The invariant: the answer for all is the answer for those that are left. Assumes nothing.
 use Rattle.block.specs.Summary.{isSum, sumOf, sumAt, rightSum}
 use Rattle.block.specs.declared.summary.SummaryRead.the-variants.{Sum, NoSum}
 use Rattle.block.proofs.Summaries.{sum-found, sum-missing, sum-room}
