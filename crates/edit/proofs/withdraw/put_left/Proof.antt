@@ -1,0 +1,105 @@
+-- `edit::put_left` meets its contract: the postings read, the docid taken out, and the bytes copied or packed anew (`Lefts`). Assumes nothing.
+use denote.Ref.{now}
+use native.Mathlib.Omega.{arith}
+use borrow.Author.Needs.{needs}
+use mathlib.Core.Path.{sym, ap, _∙_}
+use mathlib.Core.List.{List}
+use Prim.Native.Nat.{ℕ}
+use lib.ListN.{length}
+use Rattle.model.proofs.Storing.{stored-as}
+use Rattle.edit.proofs.Lefts.{left-held, left-runs, not-held, is-held, left-may, left-new, left-as-was, left-anew, kept-room}
+use Rattle.edit.proofs.withdraw.put_left.Statement.{statement}
+use Rattle.edit.proofs.withdraw.put_left.Tie as tie
+
+fill-requires : tie.Need-fill-requires
+fill-requires c κs = c .before .before .before .before .before .before .pre .0 .fills
+
+without-requires : tie.Need-without-requires
+without-requires c κs =
+    let r = left-held (c .before .before .before .before .before .before .before .before .before .before .before .before .before .pre .0) (c .before .before .before .before .before .before .fill .ensures) in
+    (r .roomy, r .wide)
+
+copy-requires : tie.Need-copy-requires
+copy-requires c κs =
+    let b = c .before .before .before .before .before .before .before .before .before .before .before .before .before .before .before .before .before .before .before .before in
+    let z = b .pre .0 in
+    (z .order, z .inside, kept-room (now (b .args .s)) (b .args .list) (b .args .d) (b .args .at) _ (z .order) (z .inside) (not-held (c .before .before .before .before .before .before .before .before .before .before .before .before .before .before .before .before .before .before .before .before .pre .0) (c .before .before .before .before .before .before .before .before .before .before .before .before .before .fill .ensures) (c .before .before .before .before .before .before .without .ensures) (c .before .if1 .taken)) (b .pre .1))
+
+same-length : tie.Need-same-length
+same-length c = search needs
+
+same-length-2 : tie.Need-same-length-2
+same-length-2 c = search needs
+
+same-length-3 : tie.Need-same-length-3
+same-length-3 c = search needs
+
+returns : tie.Need-returns
+returns c =
+    let b = c .before .before .before .before .before .before .before .before .before .before .before .before .before .before .before .before .before .before .before .before .before .before .before in
+    stored-as (sym (left-as-was (now (b .args .s)) (b .args .list) (b .args .d) (not-held (c .before .before .before .before .before .before .before .before .before .before .before .before .before .before .before .before .before .before .before .before .before .before .before .pre .0) (c .before .before .before .before .before .before .before .before .before .before .before .before .before .before .before .before .fill .ensures) (c .before .before .before .before .before .before .before .before .before .without .ensures) (c .before .before .before .before .if1 .taken)))) (c .before .before .copy .ensures)
+
+sub-put-new : tie.Need-sub-put-new
+sub-put-new c = search needs
+
+part-put-new-start : tie.Need-part-put-new-start
+part-put-new-start c = omega arith
+
+part-put-new-end : tie.Need-part-put-new-end
+part-put-new-end c =
+    left-runs (c .before .before .before .before .before .before .before .before .before .before .before .before .before .before .before .before .before .before .before .before .before .pre .0) (c .before .before .before .before .before .before .before .before .before .before .before .before .before .before .fill .ensures) (c .before .before .before .before .before .before .before .without .ensures) .roomy
+
+sub-put-new-2 : tie.Need-sub-put-new-2
+sub-put-new-2 c = search needs
+
+part-put-new-start-2 : tie.Need-part-put-new-start-2
+part-put-new-start-2 c = omega arith
+
+part-put-new-end-2 : tie.Need-part-put-new-end-2
+part-put-new-end-2 c =
+    left-runs (c .before .before .before .before .before .before .before .before .before .before .before .before .before .before .before .before .before .before .before .before .before .before .before .pre .0) (c .before .before .before .before .before .before .before .before .before .before .before .before .before .before .before .before .fill .ensures) (c .before .before .before .before .before .before .before .before .before .without .ensures) .wide
+
+put-new-requires : tie.Need-put-new-requires
+put-new-requires c κs =
+    let b = c .before .before .before .before .before .before .before .before .before .before .before .before .before .before .before .before .before .before .before .before .before .before .before .before in
+    let h = is-held (c .before .before .before .before .before .before .before .before .before .before .before .before .before .before .before .before .before .before .before .before .before .before .before .before .pre .0) (c .before .before .before .before .before .before .before .before .before .before .before .before .before .before .before .before .before .fill .ensures) (c .before .before .before .before .before .before .before .before .before .before .without .ensures) (c .before .before .before .before .before .if1 .left) in
+    let e = left-new (c .before .before .before .before .before .before .before .before .before .before .before .before .before .before .before .before .before .before .before .before .before .before .before .before .pre .0) (c .before .before .before .before .before .before .before .before .before .before .before .before .before .before .before .before .before .fill .ensures) (c .before .before .before .before .before .before .before .before .before .before .without .ensures) (b .args .list .term) ∙ sym (left-anew (now (b .args .s)) (b .args .list) (b .args .d) h) in
+    (left-may (c .before .before .before .before .before .before .before .before .before .before .before .before .before .before .before .before .before .before .before .before .before .before .before .before .pre .0) (c .before .before .before .before .before .before .before .before .before .before .before .before .before .before .before .before .before .fill .ensures) (c .before .before .before .before .before .before .before .before .before .before .without .ensures), omega (arith, b .pre .1, ap (λ (x : List ℕ). length x) e))
+
+same-length-4 : tie.Need-same-length-4
+same-length-4 c = search needs
+
+same-length-5 : tie.Need-same-length-5
+same-length-5 c = search needs
+
+same-length-6 : tie.Need-same-length-6
+same-length-6 c = search needs
+
+returns-2 : tie.Need-returns-2
+returns-2 c =
+    let b = c .before .before .before .before .before .before .before .before .before .before .before .before .before .before .before .before .before .before .before .before .before .before .before .before .before .before .before in
+    let h = is-held (c .before .before .before .before .before .before .before .before .before .before .before .before .before .before .before .before .before .before .before .before .before .before .before .before .before .before .before .pre .0) (c .before .before .before .before .before .before .before .before .before .before .before .before .before .before .before .before .before .before .before .before .fill .ensures) (c .before .before .before .before .before .before .before .before .before .before .before .before .before .without .ensures) (c .before .before .before .before .before .before .before .before .if1 .left) in
+    stored-as (left-new (c .before .before .before .before .before .before .before .before .before .before .before .before .before .before .before .before .before .before .before .before .before .before .before .before .before .before .before .pre .0) (c .before .before .before .before .before .before .before .before .before .before .before .before .before .before .before .before .before .before .before .before .fill .ensures) (c .before .before .before .before .before .before .before .before .before .before .before .before .before .without .ensures) (b .args .list .term) ∙ sym (left-anew (now (b .args .s)) (b .args .list) (b .args .d) h)) (c .before .before .put-new .ensures)
+
+pub put-left-spec : {M : Type 1} → statement M
+put-left-spec =
+    tie.close
+    (tie.spec
+    fill-requires
+    without-requires
+    copy-requires
+    same-length
+    same-length-2
+    same-length-3
+    returns
+    sub-put-new
+    part-put-new-start
+    part-put-new-end
+    sub-put-new-2
+    part-put-new-start-2
+    part-put-new-end-2
+    put-new-requires
+    same-length-4
+    same-length-5
+    same-length-6
+    returns-2)

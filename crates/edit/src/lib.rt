@@ -1,0 +1,8 @@
+// The three edits of a shelf: set, clear, withdraw.
+pub mod copy;
+pub mod edit;
+pub mod place;
+pub mod runs;
+pub mod seat;
+pub mod splice;
+pub mod withdraw;
