@@ -1,13 +1,13 @@
 -- The exhaustive ranker's answer, by what the query's reader and the walk told. Assumes nothing.
 use Prim.Native.Nat.{ℕ, zero, suc, _-_, _≤_, _<_}
-use mathlib.Core.Path.{_≡_, refl, sym, ap, subst, _∙_}
+use mathlib.Core.Path.{_≡_, refl, subst, _∙_}
 use mathlib.Core.Option.{some}
-use mathlib.Core.List.{List, [], _∷_, _++_, map}
+use mathlib.Core.List.{List, _++_}
 use native.Mathlib.Omega.{arith}
-use lib.ListN.{length, take, drop, replicate, length-map}
+use lib.ListN.{take, drop, length-map}
 use borrow.Author.Tests.{le-leb, lt-leb}
 use Rattle.model.specs.Limits.{maxTerms, maxK}
-use Rattle.model.specs.Outcome.{Outcome, refused, done, andThen}
+use Rattle.model.specs.Outcome.{Outcome, refused, done}
 use Rattle.model.proofs.Lists.{Bytes}
 use Rattle.model.proofs.Storing.{holds-take}
 use Rattle.query.specs.Query.{Question, asked, weightsOf, termsOf as askedTerms}
@@ -18,7 +18,7 @@ use Rattle.query.specs.declared.read.Verdict.the-variants.{Good, Bad}
 use Rattle.query.proofs.Accepted.{accepted-in-range}
 use Rattle.shelf.specs.Walk.{Listing, walk}
 use Rattle.shelf.specs.Check.{judged, paper}
-use Rattle.shelf.specs.Gather.{Finds, placeAt}
+use Rattle.shelf.specs.Gather.{Finds}
 use Rattle.shelf.specs.declared.check.Checked.{Checked}
 use Rattle.shelf.specs.declared.check.Checked.the-variants.{Sound, Fault}
 use Rattle.shelf.specs.declared.gather.Found.{Found}

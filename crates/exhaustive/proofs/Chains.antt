@@ -1,5 +1,5 @@
 -- What right summaries say of a list's blocks. Assumes nothing.
-use Prim.Native.Nat.{ℕ, zero, suc, _+_, _-_, _*_, _≤_, _<_}
+use Prim.Native.Nat.{ℕ, zero, suc, _+_, _*_, _≤_, _<_}
 use mathlib.Core.Path.{_≡_}
 use mathlib.Core.Bool.{true}
 use mathlib.Core.List.{List}
@@ -10,7 +10,6 @@ use borrow.Author.Tests.{leb-true, ltb-true}
 use Rattle.model.specs.Limits.{maxDocid, perBlock}
 use Rattle.model.specs.Runs.{All}
 use Rattle.model.proofs.Lists.{and-true, Bytes, bytes-drop}
-use Rattle.wire.specs.Number.{num}
 use Rattle.wire.specs.Field.{fieldLen}
 use Rattle.wire.proofs.Numbers.{num-below}
 use Rattle.block.specs.Summary.{sumOf, rightSum}

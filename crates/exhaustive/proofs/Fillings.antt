@@ -1,9 +1,9 @@
 -- All lists brought on, one after another: a list's place in the arrays, and one turn of the loop. Assumes nothing.
 use Prim.Native.Nat.{ℕ, zero, suc, _+_, _≤_, _<_, min}
-use mathlib.Core.Path.{_≡_, refl, sym, ap, _∙_}
+use mathlib.Core.Path.{_≡_, refl, ap, _∙_}
 use mathlib.Core.Bool.{Bool, true, false, cond}
 use mathlib.Core.Option.{Option, none, some}
-use mathlib.Core.List.{List, [], _∷_, map}
+use mathlib.Core.List.{List, [], _∷_}
 use native.Mathlib.Omega.{arith}
 use native.Mathlib.Numerals.{add-one}
 use lib.ListN.{length, drop, getD, set, length-set, length-map, drop-of-length-le}
@@ -15,7 +15,6 @@ use Rattle.model.proofs.Lists.{split, getD-map}
 use Rattle.rank.specs.Match.{Term}
 use Rattle.rank.specs.Run as run
 use Rattle.prune.specs.Prune.{faultIn, earlier}
-use Rattle.shelf.specs.Blocks.{blocksLeft}
 use Rattle.scan.specs.Heads.{blank, InBuffers, OwnPart, OwnParts, termOf, terms}
 use Rattle.scan.specs.declared.head.Head.{Head}
 use Rattle.scan.proofs.Heads.{All-at}

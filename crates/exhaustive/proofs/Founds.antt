@@ -1,14 +1,13 @@
 -- The lists of the terms asked, as the walk found them: they were walked, and they are the query's lists. Assumes nothing.
-use Prim.Native.Nat.{ℕ, zero, suc, _+_, _-_, _*_, _^_, _≤_, _<_}
+use Prim.Native.Nat.{ℕ, zero, suc, _+_, _-_, _*_, _^_, _<_}
 use mathlib.Core.Path.{_≡_, refl, sym, ap, _∙_}
-use mathlib.Core.Bool.{Bool, true, false}
-use mathlib.Core.Option.{Option, none}
+use mathlib.Core.Bool.{Bool}
 use mathlib.Core.List.{List, [], _∷_, _++_, map}
 use native.Mathlib.Omega.{arith}
-use lib.ListN.{length, take, drop, replicate}
+use lib.ListN.{length, drop, replicate}
 use lib.Dec.{eqb, leb}
 use borrow.Author.Tests.{eqb-true, eqb-false}
-use Rattle.model.specs.Limits.{maxTerms, maxShelf}
+use Rattle.model.specs.Limits.{maxShelf}
 use Rattle.model.specs.Outcome.{Outcome, refused, done, andThen}
 use Rattle.model.specs.Runs.{All, filter}
 use Rattle.model.proofs.Lists.{split}
@@ -20,11 +19,11 @@ use Rattle.shelf.specs.Blocks.{blocksLeft, Rests}
 use Rattle.shelf.specs.Gather.{noList, termList, placeAt, termBlocks}
 use Rattle.shelf.proofs.Stands.{walk-size, term-blocks, term-ready}
 use Rattle.query.specs.Query.{Asked, termsOf as askedTerms, weightsOf}
-use Rattle.rank.specs.Match.{Term, some, anyList, holds, scoreOf, heldFrom, matches, hitAt, hitsOf}
+use Rattle.rank.specs.Match.{some, anyList, holds, scoreOf, heldFrom, matches, hitAt, hitsOf}
 use Rattle.rank.specs.Rank.{Hit}
 use Rattle.prune.specs.Cut.{Listing}
-use Rattle.prune.specs.Prune.{termsOf, faultAll, exhaustive, earlier}
-use Rattle.exhaustive.specs.Lists.{blockOf, listingOf, listingsOf}
+use Rattle.prune.specs.Prune.{termsOf, faultAll, exhaustive}
+use Rattle.exhaustive.specs.Lists.{listingsOf}
 use Rattle.exhaustive.specs.Merge.{Chain, readingAt, Walked, AllWalked, Addressed, listsFrom}
 
 -- ---- the walk passes right summaries

@@ -1,10 +1,10 @@
 -- A run up to the horizon: the documents of all that the lists have, up to there; and what they then have. Assumes nothing.
 use Prim.Native.Nat.{ℕ, suc, _-_, _≤_, _<_, min}
-use mathlib.Core.Path.{_≡_, refl, sym, ap, _∙_}
-use mathlib.Core.Option.{Option, none}
+use mathlib.Core.Path.{_≡_, refl, sym, _∙_}
+use mathlib.Core.Option.{none}
 use mathlib.Core.List.{List, [], _∷_, _++_, map}
 use native.Mathlib.Omega.{arith}
-use lib.ListN.{length, length-map}
+use lib.ListN.{length}
 use lib.Dec.{ltb, leb}
 use borrow.Author.Tests.{le-ltb, lt-ltb, ltb-true, ltb-false, leb-true, leb-false}
 use Rattle.model.specs.Limits.{maxDocid}
@@ -21,12 +21,12 @@ use Rattle.rank.proofs.Matches.{AllDocs, matches-asc, matches-all, hits-rising,
 use Rattle.rank.proofs.Withins.{rising-above, within-split, within-whole}
 use Rattle.rank.proofs.Hits.{Rises, run-within, left-within, skip-rises}
 use Rattle.prune.specs.Prune.{postsOf}
-use Rattle.scan.specs.Heads.{headPosts, terms}
+use Rattle.scan.specs.Heads.{terms}
 use Rattle.scan.specs.declared.head.Head.{Head}
-use Rattle.exhaustive.specs.Merge.{onShelf, Behind, Behinds, AllSettled, wholes, faultLeft, horizonOf}
+use Rattle.exhaustive.specs.Merge.{onShelf, Behinds, AllSettled, wholes, faultLeft, horizonOf}
 use Rattle.exhaustive.specs.declared.fill.Left.{Left}
 use Rattle.exhaustive.proofs.Refills.{stands-some, ended-none}
-use Rattle.exhaustive.proofs.Wholes.{chain-rising, past-less, wholes-rise, wholes-low, Pasts, wholes-holds, wholes-score, wholes-skip}
+use Rattle.exhaustive.proofs.Wholes.{chain-rising, past-less, wholes-rise, wholes-low, Pasts, wholes-holds, wholes-score}
 
 -- ---- a run over lists that were not skipped
 below-zero : (ps : List Post) → dropBelow 0 ps ≡ ps

@@ -1,18 +1,15 @@
 -- The merge: what was kept, with the documents of what the lists still have, gives what it gave at the start. Assumes nothing.
 use Prim.Native.Nat.{ℕ, suc, _≤_, _<_}
-use mathlib.Core.Path.{_≡_, refl, sym, ap, _∙_}
-use mathlib.Core.Bool.{Bool, true, false}
+use mathlib.Core.Path.{_≡_, sym, ap, _∙_}
 use mathlib.Core.Option.{Option, none}
 use mathlib.Core.List.{List, [], _∷_, _++_, map, foldl-append}
 use native.Mathlib.Omega.{arith}
-use lib.ListN.{length, take, length-map}
+use lib.ListN.{length, length-map}
 use Rattle.model.specs.Limits.{maxTerms, maxK}
 use Rattle.model.specs.Outcome.{done}
-use Rattle.model.specs.Post.{docs, postings}
-use Rattle.model.specs.Runs.{All}
 use Rattle.model.proofs.Lists.{Bytes}
 use Rattle.rank.specs.Rank.{Hit, keep, keeps, ranking, Ordered}
-use Rattle.rank.specs.Match.{Term, anyList, heldFrom, hitsOf}
+use Rattle.rank.specs.Match.{Term, anyList, hitsOf}
 use Rattle.rank.specs.Keep.{keptOf}
 use Rattle.rank.specs.Run as run
 use Rattle.rank.specs.Run.{skipTerm, size, runHits}

@@ -1,20 +1,16 @@
 -- The lists before their first blocks: they have all their postings, on the shelf. Assumes nothing.
 use Prim.Native.Nat.{ℕ, zero, suc, _+_, _*_, _^_, _≤_, _<_}
 use mathlib.Core.Path.{_≡_, refl, sym, ap, _∙_}
-use mathlib.Core.List.{List, [], _∷_, _++_}
+use mathlib.Core.List.{List, [], _∷_}
 use native.Mathlib.Omega.{arith}
 use native.Mathlib.Numerals.{add-one}
 use lib.ListN.{length, take, getD, set}
 use lib.Seq.{slice-empty, take-suc, take-suc-set, take-all}
 use Rattle.model.specs.Limits.{maxTerms}
 use Rattle.model.specs.Runs.{All}
-use Rattle.rank.specs.Match.{Term}
-use Rattle.rank.specs.Run as run
 use Rattle.prune.specs.Prune.{termsOf, faultAll}
 use Rattle.scan.specs.Heads.{roomy, partOf, blank, InBuffers, OwnParts, terms}
-use Rattle.scan.specs.declared.head.Head.{Head}
 use Rattle.exhaustive.specs.Merge.{Behinds, wholes, faultLeft, Lines, startHead, startHeads, startLeft, startLefts, Addressed, AllWalked, listsFrom}
-use Rattle.exhaustive.specs.declared.fill.Left.{Left}
 use Rattle.exhaustive.proofs.Refills.{ended-none}
 use Rattle.exhaustive.proofs.Fillings.{noLeft}
 

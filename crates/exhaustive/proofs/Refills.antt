@@ -8,7 +8,7 @@ use native.Mathlib.Omega.{arith}
 use lib.ListN.{length, take, drop}
 use borrow.Author.Tests.{lt-ltb, le-ltb}
 use Rattle.model.specs.Limits.{maxDocid}
-use Rattle.model.specs.Outcome.{Outcome, refused, done}
+use Rattle.model.specs.Outcome.{refused, done}
 use Rattle.model.specs.Post.{Post, post}
 use Rattle.model.specs.Runs.{All}
 use Rattle.model.proofs.Lists.{Bytes}
@@ -16,18 +16,18 @@ use Rattle.block.specs.Body.{rightBody, bodyRun}
 use Rattle.block.specs.declared.summary.Summary.{Summary}
 use Rattle.block.proofs.Contents.{right-run}
 use Rattle.shelf.specs.Walk as shelf
-use Rattle.shelf.specs.Blocks.{blocksLeft, Rests, Finds}
+use Rattle.shelf.specs.Blocks.{blocksLeft, Finds}
 use Rattle.shelf.specs.declared.blocks.Reading.{Reading}
 use Rattle.rank.specs.Match.{Term}
 use Rattle.rank.specs.Run as run
 use Rattle.prune.specs.Prune.{postsOf, faultIn, earlier}
-use Rattle.scan.specs.Heads.{between, headPosts, termOf}
+use Rattle.scan.specs.Heads.{between, headPosts}
 use Rattle.scan.specs.Load.{Loadable, Loads}
 use Rattle.scan.specs.declared.head.Head.{Head}
 use Rattle.scan.specs.declared.load.Loaded.the-variants.{Stands, Wrong}
 use Rattle.scan.proofs.Bodies.{run-few}
 use Rattle.scan.proofs.Loadings.{load-stands, load-refused, load-others}
-use Rattle.exhaustive.specs.Lists.{bodyOf, blockOf}
+use Rattle.exhaustive.specs.Lists.{bodyOf}
 use Rattle.exhaustive.specs.Merge.{onShelf, Chain, whole, Line, Refilled}
 use Rattle.exhaustive.specs.declared.fill.Left.{Left}
 use Rattle.exhaustive.proofs.Rises.{run-rises}

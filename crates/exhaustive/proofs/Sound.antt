@@ -1,10 +1,9 @@
 -- On a sound shelf an accepted query with rows enough gets the ranking: the first k matches of its lists' postings. Assumes nothing.
 use Prim.Native.Nat.{ℕ, _≤_}
-use mathlib.Core.Path.{_≡_, refl, sym, ap, _∙_}
-use mathlib.Core.Option.{Option, none}
+use mathlib.Core.Path.{_≡_, refl, ap, _∙_}
+use mathlib.Core.Option.{none}
 use mathlib.Core.List.{List, [], _∷_, map}
 use native.Mathlib.Omega.{arith}
-use lib.Dec.{eqb}
 use borrow.Author.Tests.{le-leb}
 use Rattle.model.specs.Outcome.{Outcome, refused, done, andThen}
 use Rattle.model.specs.Runs.{All}
@@ -13,7 +12,7 @@ use Rattle.block.specs.Body.{rightBody}
 use Rattle.block.proofs.Contents.{right-run}
 use Rattle.shelf.specs.Walk as shelf
 use Rattle.shelf.specs.Check.{badBody, orElse, badLists, verdict, checked}
-use Rattle.shelf.specs.Gather.{noList, termList, termBlocks}
+use Rattle.shelf.specs.Gather.{termBlocks}
 use Rattle.shelf.specs.declared.check.BadRead.{BadRead}
 use Rattle.shelf.specs.declared.check.BadRead.the-variants.{BadAt, NoBad}
 use Rattle.query.specs.Query.{Asked, Question, asked}

@@ -1,6 +1,6 @@
 -- What the lists have in all: docids rise, in range, and what stands on the shelf comes after what stands in the buffers. Assumes nothing.
 use Prim.Native.Nat.{ℕ, suc, _+_, _≤_, _<_}
-use mathlib.Core.Path.{_≡_, refl, sym, ap, _∙_}
+use mathlib.Core.Path.{_≡_, refl}
 use mathlib.Core.List.{List, [], _∷_, _++_, map}
 use native.Mathlib.Omega.{arith}
 use lib.ListN.{length, length-append}
@@ -9,7 +9,7 @@ use borrow.Author.Tests.{ne-eqb, le-ltb}
 use Rattle.model.specs.Limits.{maxDocid}
 use Rattle.model.specs.Post.{Post, docs, Rising}
 use Rattle.model.specs.Runs.{All, has, Asc}
-use Rattle.model.proofs.Lists.{split, All-map, All-append, All-image, Bytes}
+use Rattle.model.proofs.Lists.{split, All-append, All-image, Bytes}
 use Rattle.block.specs.Body.{rightBody, bodyRun}
 use Rattle.shelf.specs.Walk as shelf
 use Rattle.shelf.specs.Blocks.{blocksLeft}
@@ -20,7 +20,7 @@ use Rattle.rank.proofs.Hits.{Rises}
 use Rattle.prune.specs.Prune.{postsOf}
 use Rattle.scan.proofs.Bodies.{run-few}
 use Rattle.exhaustive.specs.Lists.{blockOf}
-use Rattle.exhaustive.specs.Merge.{onShelf, Chain, Behind, Behinds, wholes}
+use Rattle.exhaustive.specs.Merge.{onShelf, Chain, Behinds, wholes}
 use Rattle.exhaustive.specs.declared.fill.Left.{Left}
 use Rattle.exhaustive.proofs.Rises.{run-rises}
 use Rattle.exhaustive.proofs.Chains.{sum-facts, left-low}

@@ -1,9 +1,8 @@
 -- The first wrong body of some lists, met one after another. Assumes nothing.
 use Prim.Native.Nat.{ℕ, zero, suc, _+_, _-_, _≤_, _<_, min}
 use mathlib.Core.Path.{_≡_, refl, sym, ap, _∙_}
-use mathlib.Core.Bool.{cond}
 use mathlib.Core.Option.{Option, none, some}
-use mathlib.Core.List.{List, [], _∷_, map}
+use mathlib.Core.List.{List, [], _∷_}
 use native.Mathlib.Omega.{arith}
 use native.Mathlib.Numerals.{add-one}
 use lib.ListN.{length, take, drop, getD, drop-of-length-le}
@@ -17,9 +16,8 @@ use Rattle.shelf.specs.Walk as shelf
 use Rattle.shelf.specs.Blocks.{blocksLeft, Rests, Finds}
 use Rattle.shelf.specs.declared.blocks.Reading.{Reading}
 use Rattle.prune.specs.Prune.{faultOf, faultIn, earlier}
-use Rattle.exhaustive.specs.Lists.{bodyOf, blockOf}
+use Rattle.exhaustive.specs.Lists.{bodyOf}
 use Rattle.exhaustive.specs.Merge.{onShelf, readingAt, faultLeft, startLefts, AllWalked, wrongHere}
-use Rattle.exhaustive.specs.declared.fill.Left.{Left}
 use Rattle.exhaustive.proofs.Fillings.{noLeft}
 use Rattle.exhaustive.proofs.Opens.{lefts-at, lefts-long}
 

@@ -1,5 +1,4 @@
 // The exhaustive ranker. Its refusals come in the paper's order: 1 to 5 by the query, 6 and 7 by the shelf, 9 by the rows, 8 by the bodies.
-ghost use mathlib.Core.Path.{_≡_};
 ghost use Rattle.model.specs.Outcome.{refused};
 ghost use Rattle.rank.specs.Match.{anyList};
 ghost use Rattle.prune.specs.Prune.{exhaustive};

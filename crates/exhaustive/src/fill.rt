@@ -1,9 +1,7 @@
 // The lists of a query in front of a merge: each with a block in its part of the buffers, and its next blocks on the shelf.
 ghost use mathlib.Core.Path.{_≡_};
 ghost use Prim.Native.Nat.{_+_, _*_, _<_, _^_};
-ghost use lib.ListN.{length};
 ghost use Rattle.exhaustive.specs.Merge.{readingAt, Line, Refills, Lines, Fills, nearer, horizonOf};
-use block::summary::Summary;
 use scan::head::Head;
 use scan::load::Loaded;
 use shelf::blocks::BlockStep;

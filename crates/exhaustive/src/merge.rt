@@ -1,10 +1,8 @@
 // The documents of a query's lists, merged out of their blocks: each block's body is read once, when its list needs it.
-ghost use mathlib.Core.Path.{_≡_};
 ghost use Rattle.exhaustive.specs.Merge.{Addressed, Opens, Mergeable, Merges};
 use crate::fill::Left;
 use rank::keep::Kept;
 use scan::head::Head;
-use shelf::blocks::Reading;
 
 // Where the lists stand, and what is left of them on the shelf.
 pub struct Opened {

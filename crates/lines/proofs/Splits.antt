@@ -82,3 +82,19 @@ module _ (s : List ℕ) (at : ℕ) (p : Passing s at) where
 
   pub passing-end : queryFieldAt s at ≡ Missing → querySize s ≡ at
   passing-end e = omega (arith, p .left, size-none (p .fuel) (drop at s) (of-not s at e))
+
+-- ---- the query lies within the input
+
+within : (fuel : ℕ) (s : List ℕ) → sizeIn fuel s ≤ length s
+unfolding sizeIn
+within zero s = omega arith
+within (suc fuel) s =
+    split (ofQuery s)
+    (λ e.
+    let n = 3 + fieldLen s in
+    rw e (omega (arith, of-size s e, within fuel (drop n s), length-drop n s)))
+    (λ e. rw e (omega arith))
+
+pub query-within : (s : List ℕ) → querySize s ≤ length s
+unfolding querySize
+query-within s = within (length s) s

@@ -15,7 +15,7 @@ abbrev pub codes : String → List ℕ
 codes none = []
 codes (c and s) = code c ∷ codes s
 
--- the decimal digits of a number, of which there are at most `most`
+-- the decimal digits of a number, of which there are at most `most`; the code of the digit 0 is 48
 unfoldable pub digits : (most : ℕ) → ℕ → List ℕ
 digits zero n = []
 digits (suc most) n = cond (ltb n 10) ((48 + n) ∷ []) (digits most (n / 10) ++ ((48 + n % 10) ∷ []))

@@ -1,5 +1,4 @@
 // A block's body read into its list's part of the buffers, once: it is judged while its postings are stored.
-ghost use Prim.Native.Nat.{_<_, _≤_};
 ghost use Rattle.scan.specs.Load.{Loadable, Loads};
 use crate::head::Head;
 use block::summary::Summary;

@@ -1,6 +1,6 @@
 -- `rank_all` meets its contract: each way out by what the query's reader, the walk and the rows say (`Alls`). Assumes nothing.
-use Prim.Native.Nat.{ℕ, _≤_, _<_}
-use mathlib.Core.Path.{_≡_, refl, sym, ap, _∙_}
+use Prim.Native.Nat.{ℕ, _≤_}
+use mathlib.Core.Path.{_≡_, ap, _∙_}
 use mathlib.Core.List.{List}
 use native.Mathlib.Omega.{arith}
 use borrow.Author.Needs.{needs}
@@ -20,12 +20,6 @@ use Rattle.exhaustive.specs.Lists.{listingsOf}
 use Rattle.exhaustive.proofs.Alls.{answers-as, told-bad, told-good, walk-bad, walk-good, all-asked, all-walk, all-rows, all-ranked, carried-few, found-mergeable, found-same}
 use Rattle.exhaustive.proofs.all.rank_all.Statement.{statement}
 use Rattle.exhaustive.proofs.all.rank_all.Tie as tie
-use Rattle.exhaustive.proofs.all.rank_all.Reads as reads
-use Rattle.exhaustive.proofs.all.rank_all.Lts as lts
-use Rattle.exhaustive.proofs.all.rank_found.Reads as rank-found-reads
-use Rattle.exhaustive.proofs.all.refuse.Reads as refuse-reads
-use Rattle.query.proofs.read.read_query.Reads as read-query-reads
-use Rattle.shelf.proofs.gather.find_terms.Reads as find-terms-reads
 
 read-query-requires : tie.Need-read-query-requires
 read-query-requires c κs = search needs

@@ -1,25 +1,17 @@
 -- `rank_found` meets its contract: by what the merge says of the bodies. Assumes nothing.
-use Prim.Native.Nat.{ℕ, _≤_, _<_}
-use mathlib.Core.Path.{_≡_, refl, sym, ap, _∙_}
-use mathlib.Core.Option.{none, some}
+use Prim.Native.Nat.{ℕ}
+use mathlib.Core.Path.{_≡_, sym, ap, _∙_}
 use native.Mathlib.Omega.{arith}
 use borrow.Author.Needs.{needs}
 use denote.Ref.{now}
 use lib.ListN.{length}
 use Rattle.prune.specs.Prune.{faultAll}
-use Rattle.exhaustive.specs.Exhaustive.{Answers}
-use Rattle.exhaustive.specs.Merge.{listsFrom, wrongOf, faultLeft, startLefts}
+use Rattle.exhaustive.specs.Merge.{listsFrom, wrongOf}
 use Rattle.exhaustive.specs.declared.wrong.WrongBody.the-variants.{At, Nowhere}
-use Rattle.exhaustive.specs.declared.all.Verdict.the-variants.{Done, Refused}
 use Rattle.exhaustive.proofs.Opens.{start-fault}
 use Rattle.exhaustive.proofs.Alls.{answers-as, fault-refuses}
 use Rattle.exhaustive.proofs.all.rank_found.Statement.{statement}
 use Rattle.exhaustive.proofs.all.rank_found.Tie as tie
-use Rattle.exhaustive.proofs.all.rank_found.Reads as reads
-use Rattle.exhaustive.proofs.all.rank_found.Lts as lts
-use Rattle.exhaustive.proofs.all.refuse.Reads as refuse-reads
-use Rattle.exhaustive.proofs.merge.merge.Reads as merge-reads
-use Rattle.exhaustive.proofs.wrong.first_wrong.Reads as first-wrong-reads
 
 merge-requires : tie.Need-merge-requires
 merge-requires c κs = search needs

@@ -2,18 +2,11 @@
 use Prim.Native.Nat.{_-_}
 use mathlib.Core.Path.{_≡_, sym}
 use mathlib.Core.Bool.{false≢true}
-use native.Mathlib.Omega.{arith}
 use borrow.Author.Needs.{needs}
-use lib.ListN.{getD}
-use Rattle.scan.specs.Heads.{blank}
-use Rattle.exhaustive.specs.Merge.{Refills}
 use Rattle.exhaustive.specs.declared.fill.Supply.the-variants.{Stands, Wrong}
-use Rattle.exhaustive.proofs.Fillings.{noLeft, line-at, Filling, filling-none, filling-turn, filling-wrong, filling-done}
+use Rattle.exhaustive.proofs.Fillings.{line-at, Filling, filling-none, filling-turn, filling-wrong, filling-done}
 use Rattle.exhaustive.proofs.fill.fill.Statement.{statement}
 use Rattle.exhaustive.proofs.fill.fill.Tie as tie
-use Rattle.exhaustive.proofs.fill.fill.Reads as reads
-use Rattle.exhaustive.proofs.fill.fill.Lts as lts
-use Rattle.exhaustive.proofs.fill.refill.Reads as refill-reads
 
 abbrev Inv-loop : tie.InvT-loop
 Inv-loop shelf docs₀ scores₀ hs₀ ls₀ t₀ docs scores hs ls t = Filling shelf docs₀ scores₀ hs₀ ls₀ docs scores hs ls t

@@ -6,12 +6,10 @@ use borrow.Author.Needs.{needs}
 use lib.ListN.{length, drop, getD}
 use Rattle.scan.specs.Heads.{blank}
 use Rattle.rank.specs.Run.{none}
-use Rattle.exhaustive.specs.Merge.{nearer, horizonOf}
+use Rattle.exhaustive.specs.Merge.{horizonOf}
 use Rattle.exhaustive.proofs.Fillings.{noLeft, horizon-turn, horizon-past, horizon-top, nearer-top}
 use Rattle.exhaustive.proofs.fill.horizon.Statement.{statement}
 use Rattle.exhaustive.proofs.fill.horizon.Tie as tie
-use Rattle.exhaustive.proofs.fill.horizon.Reads as reads
-use Rattle.exhaustive.proofs.fill.horizon.Lts as lts
 
 abbrev Inv-loop : tie.InvT-loop
 Inv-loop heads lefts last₀ i₀ last i = (i ≤ 8) × (last ≤ none) × (horizonOf heads lefts ≡ min last (horizonOf (drop i heads) (drop i lefts)))

@@ -1,6 +1,5 @@
 -- `nearer_of` meets its contract. Assumes nothing.
 use native.Mathlib.Omega.{arith}
-use native.Mathlib.Nat.{min-eq-left, min-eq-right, le-of-lt}
 use borrow.Author.Tests.{lt-ltb, le-ltb}
 use Rattle.exhaustive.proofs.fill.nearer_of.Statement.{statement}
 use Rattle.exhaustive.proofs.fill.nearer_of.Tie as tie

@@ -1,11 +1,8 @@
 -- `reading_at` meets its contract. Assumes nothing.
 use native.Mathlib.Omega.{arith}
-use borrow.Author.Needs.{needs}
 use borrow.Author.Tests.{eq-eqb, ne-eqb}
 use Rattle.exhaustive.proofs.fill.reading_at.Statement.{statement}
 use Rattle.exhaustive.proofs.fill.reading_at.Tie as tie
-use Rattle.exhaustive.proofs.fill.reading_at.Reads as reads
-use Rattle.exhaustive.proofs.fill.reading_at.Lts as lts
 
 returns : tie.Need-returns
 returns c = rw (eq-eqb (c .before .args .count) 0 (c .if1 .taken))

@@ -1,5 +1,4 @@
 -- `refill` meets its contract: the laws of `Refills`, one for each way out. Assumes nothing.
-use Prim.Native.Nat.{_≤_}
 use mathlib.Core.Path.{_≡_}
 use native.Mathlib.Omega.{arith}
 use borrow.Author.Needs.{needs}
@@ -7,15 +6,10 @@ use denote.Ref.{now}
 use Rattle.model.proofs.Lists.{Bytes}
 use Rattle.shelf.specs.Blocks.{Steps}
 use Rattle.shelf.specs.declared.blocks.BlockStep.the-variants.{Block, Last}
-use Rattle.scan.specs.Load.{Loads}
 use Rattle.scan.specs.declared.load.Loaded.the-variants.{Stands, Wrong}
 use Rattle.exhaustive.proofs.Refills.{refill-stands, refill-last, load-ok, refill-wrong, refill-next}
 use Rattle.exhaustive.proofs.fill.refill.Statement.{statement}
 use Rattle.exhaustive.proofs.fill.refill.Tie as tie
-use Rattle.exhaustive.proofs.fill.refill.Reads as reads
-use Rattle.exhaustive.proofs.fill.refill.Lts as lts
-use Rattle.scan.proofs.load.load.Reads as load-reads
-use Rattle.shelf.proofs.blocks.Reading.next.Reads as next-reads
 
 returns : tie.Need-returns
 returns c = let st = c .before .before .before in refill-stands _ _ _ _ _ _ (st .pre) (c .if1 .taken)

@@ -1,7 +1,7 @@
 -- `merge` meets its contract: what was kept, with the documents of what the lists still have, gives the answer (`Merges`); the postings left are fewer
 -- with each run. Assumes nothing.
-use Prim.Native.Nat.{ℕ, _≤_, _<_}
-use mathlib.Core.Path.{_≡_, refl, sym, ap, _∙_}
+use Prim.Native.Nat.{ℕ, _<_}
+use mathlib.Core.Path.{_≡_, refl, sym, _∙_}
 use mathlib.Core.Bool.{false≢true}
 use mathlib.Core.List.{List}
 use native.Mathlib.Omega.{arith}
@@ -12,19 +12,12 @@ use Rattle.model.proofs.Lists.{Bytes}
 use Rattle.rank.specs.Run.{none, size}
 use Rattle.prune.specs.Prune.{termsOf, faultAll}
 use Rattle.scan.specs.Heads.{roomy, terms}
-use Rattle.exhaustive.specs.Merge.{Lines, FilledUp, wholes, faultLeft, horizonOf, listsFrom}
+use Rattle.exhaustive.specs.Merge.{Lines, wholes, faultLeft, listsFrom}
 use Rattle.exhaustive.proofs.Fillings.{horizon-top}
 use Rattle.exhaustive.proofs.Opens.{start-lines, start-wholes, start-fault}
 use Rattle.exhaustive.proofs.Merges.{Merging, merging-none, merging-wrong, merging-done, merging-ready, merging-turn, merging-less}
 use Rattle.exhaustive.proofs.merge.merge.Statement.{statement}
 use Rattle.exhaustive.proofs.merge.merge.Tie as tie
-use Rattle.exhaustive.proofs.merge.merge.Reads as reads
-use Rattle.exhaustive.proofs.merge.merge.Lts as lts
-use Rattle.exhaustive.proofs.fill.fill.Reads as fill-reads
-use Rattle.exhaustive.proofs.fill.horizon.Reads as horizon-reads
-use Rattle.exhaustive.proofs.merge.open_all.Reads as open-all-reads
-use Rattle.rank.proofs.keep.Kept.new.Reads as new-reads
-use Rattle.scan.proofs.run.run.Reads as run-reads
 
 abbrev Inv-loop : tie.InvT-loop
 Inv-loop shelf k docs₀ scores₀ heads₀ lefts₀ kept₀ docs scores heads lefts kept =

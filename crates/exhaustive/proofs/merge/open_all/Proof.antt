@@ -1,19 +1,16 @@
 -- `open_all` meets its contract: both arrays are filled from the front. Assumes nothing.
-use Prim.Native.Nat.{_+_, _-_, _*_, _^_, _≤_, _<_}
+use Prim.Native.Nat.{_+_, _-_, _≤_, _<_}
 use mathlib.Core.Path.{_≡_, refl, sym, ap, _∙_}
 use native.Mathlib.Omega.{arith}
 use borrow.Author.Needs.{needs}
 use lib.ListN.{length, take, getD, length-set}
 use Rattle.scan.specs.Heads.{blank}
-use Rattle.exhaustive.specs.Merge.{startHead, startHeads, startLeft, startLefts}
+use Rattle.exhaustive.specs.Merge.{startHead, startHeads, startLefts}
 use Rattle.exhaustive.specs.declared.fill.Left.{Left}
 use Rattle.exhaustive.proofs.Fillings.{noLeft}
 use Rattle.exhaustive.proofs.Opens.{front-turn, front-done, heads-long, heads-at, lefts-long, lefts-at, addressed-at}
 use Rattle.exhaustive.proofs.merge.open_all.Statement.{statement}
 use Rattle.exhaustive.proofs.merge.open_all.Tie as tie
-use Rattle.exhaustive.proofs.merge.open_all.Reads as reads
-use Rattle.exhaustive.proofs.merge.open_all.Lts as lts
-use Rattle.exhaustive.proofs.fill.reading_at.Reads as reading-at-reads
 
 abbrev Inv-loop : tie.InvT-loop
 Inv-loop ats counts weights hs₀ ls₀ t₀ hs ls t =

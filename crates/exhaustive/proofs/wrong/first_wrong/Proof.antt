@@ -1,12 +1,11 @@
 -- `first_wrong` meets its contract: what is left of the lists takes what was met on to the answer (`Wrongs`). Assumes nothing.
-use Prim.Native.Nat.{_-_, _≤_, _<_}
+use Prim.Native.Nat.{_-_, _≤_}
 use mathlib.Core.Path.{_≡_, refl, sym, ap, _∙_}
 use mathlib.Core.Option.{Option}
 use native.Mathlib.Omega.{arith}
 use borrow.Author.Needs.{needs}
 use denote.Ref.{now}
 use lib.ListN.{length, drop, getD}
-use Rattle.shelf.specs.Blocks.{Rests}
 use Rattle.shelf.specs.declared.blocks.Reading.{Reading}
 use Rattle.prune.specs.Prune.{earlier, faultIn}
 use Rattle.exhaustive.specs.Merge.{onShelf, readingAt, faultLeft, startLefts, wrongOf}

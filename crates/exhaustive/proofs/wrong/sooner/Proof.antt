@@ -1,6 +1,5 @@
 -- `sooner` meets its contract. Assumes nothing.
 use mathlib.Core.Path.{_≡_}
-use mathlib.Core.Option.{some}
 use borrow.Author.Needs.{needs}
 use borrow.Author.Tests.{lt-ltb, le-ltb}
 use Rattle.exhaustive.specs.declared.wrong.WrongBody.the-variants.{At, Nowhere}
