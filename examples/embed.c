@@ -1,4 +1,4 @@
-/* Writes a list, checks the shelf that it is, and shows a refusal. From the repository's root:
+/* Writes a list, checks the shelf that it is, searches it, and shows a refusal. From the repository's root:
  *     rt staticlib embed && cc -Iinclude examples/embed.c target/staticlib/libembed.a -o target/embed && target/embed */
 #include "tagmurlen.h"
 #include <stdio.h>
@@ -6,7 +6,9 @@
 int main(void) {
     const uint32_t sheets[] = {2, 4, 9};
     const uint16_t scores[] = {5, 3, 1};
+    const uint8_t query[] = {0x20, 0, 1, 2, 0x21, 0, 5, 0, 0, 0, 7, 10}; /* the best 2 for term 7, weight 10 */
     uint8_t shelf[64];
+    uint32_t found[2], summed[2];
     uint64_t value = 0;
 
     uint32_t number = tagmurlen_write_list(7, sheets, 3, scores, 3, shelf, sizeof shelf, &value);
@@ -15,6 +17,10 @@ int main(void) {
 
     number = tagmurlen_check(shelf, length, &value);
     printf("checked: %s\n", number == TAGMURLEN_ACCEPTED ? "sound" : "not sound");
+
+    if (tagmurlen_rank_all(query, sizeof query, shelf, length, found, 2, summed, 2, &value) == TAGMURLEN_ACCEPTED)
+        for (uint64_t i = 0; i < value; i++)
+            printf("sheet %u scores %u\n", found[i], summed[i]);
 
     shelf[18] = 9; /* the summary's greatest score, 5, is made larger than any score of the body */
     number = tagmurlen_check(shelf, length, &value);

@@ -57,6 +57,11 @@ uint32_t tagmurlen_read_list(const uint8_t *shelf, size_t shelf_len, uint32_t te
 uint32_t tagmurlen_write_list(uint32_t term, const uint32_t *docids, size_t docids_len, const uint16_t *scores, size_t scores_len,
                               uint8_t *out, size_t out_len, uint64_t *value);
 
+/* The best k documents of a query, all its lists read, to the front of two runs, docids beside their scores: 1 to 5, 6, 7, 9, 8.
+   Stores how many hits there are. The shorter run is the number of rows. */
+uint32_t tagmurlen_rank_all(const uint8_t *query, size_t query_len, const uint8_t *shelf, size_t shelf_len,
+                            uint32_t *docids, size_t docids_len, uint32_t *scores, size_t scores_len, uint64_t *value);
+
 #ifdef __cplusplus
 }
 #endif

@@ -1,6 +1,7 @@
 //! Each entry point of the archive beside the reference: its answer, and every run that was lent to it.
 
 use crate::lent::Lent;
+use crate::reference::rank::{self, Hit};
 use crate::reference::{list, query, shelf, Refusal};
 use tagmurlen::raw;
 
@@ -95,5 +96,35 @@ pub fn write_list(t: &mut Tally, term: u32, docids: &[u32], scores: &[u16], room
     let reference = list::write_list(term, docids, scores, room);
     t.answers("write_list", archive, told(&reference, Vec::len));
     t.note("write_list's buffer", out.fault(&reference.unwrap_or_default()));
+    archive
+}
+
+/// The hits as two runs.
+fn columns(hits: &[Hit]) -> (Vec<u32>, Vec<u32>) {
+    hits.iter().copied().unzip()
+}
+
+pub fn rank_all(t: &mut Tally, query: &[u8], bytes: &[u8], docid_room: usize, score_room: usize) -> Answer {
+    let mut docids: Lent<u32> = Lent::new(docid_room);
+    let mut scores: Lent<u32> = Lent::new(score_room);
+    let (d, s) = (docids.run(), scores.run());
+    let archive = call(|value| unsafe {
+        raw::tagmurlen_rank_all(
+            query.as_ptr(),
+            query.len(),
+            bytes.as_ptr(),
+            bytes.len(),
+            d.as_mut_ptr(),
+            d.len(),
+            s.as_mut_ptr(),
+            s.len(),
+            value,
+        )
+    });
+    let reference = rank::rank_all(query, bytes, docid_room.min(score_room));
+    t.answers("rank_all", archive, told(&reference, Vec::len));
+    let (front_docids, front_scores) = columns(&reference.unwrap_or_default());
+    t.note("rank_all's docids", docids.fault(&front_docids));
+    t.note("rank_all's scores", scores.fault(&front_scores));
     archive
 }

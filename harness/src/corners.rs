@@ -1,6 +1,6 @@
 //! Corner cases by name, each with the answer that the paper gives, run through the archive and beside the reference.
 
-use crate::compare::{check, check_query, read_list, write_list, Answer, Tally};
+use crate::compare::{check, check_query, rank_all, read_list, write_list, Answer, Tally};
 use crate::generate::field_starts;
 use crate::reference::fields::put_field;
 use crate::reference::list::{pack, put_blocks, put_summary};
@@ -18,7 +18,7 @@ pub fn all(t: &mut Tally) {
     }
 }
 
-const CORNERS: [(&str, fn(&mut Tally)); 18] = [
+const CORNERS: [(&str, fn(&mut Tally)); 21] = [
     ("the empty shelf", empty_shelf),
     ("the paper's shelf, and each of its bytes made another", each_byte_changed),
     ("a shelf cut short at every byte", cut_at_every_byte),
@@ -36,6 +36,9 @@ const CORNERS: [(&str, fn(&mut Tally)); 18] = [
     ("a buffer of exactly the length, and one byte shorter", exact_room),
     ("a list read: exact room, one short in either run, not there, its body wrong, another's body wrong", lists_read),
     ("a list of 64 blocks and of 6,400 postings read", long_lists_read),
+    ("M1 to M8 ranked", marked_ranked),
+    ("a search refused: 1 before 6, 6 before 9, 9 before 8, bad bodies in byte order", refused_searches),
+    ("k 100 of 101 matches, and the largest score", ranking_limits),
     ("queries: k, terms, weights, repeats, cut at every byte", queries),
 ];
 
@@ -337,6 +340,56 @@ fn long_lists_read(t: &mut Tally) {
     is(t, found, (0, 6_400));
     let found = read_list(t, &pack(3, &run_of(6_400)), 3, 6_400, 6_399);
     is(t, found, (9, 0));
+}
+
+fn marked_ranked(t: &mut Tally) {
+    let shelf = m1_shelf();
+    for (k, hits) in [(1, 1), (2, 2), (3, 3), (5, 4)] {
+        let found = rank_all(t, &put_query(k, &[(7, 1), (9, 2)]), &shelf, 5, 5);
+        is(t, found, (0, hits));
+    }
+    let mut wrong_score = m1_shelf();
+    wrong_score[30] = 3;
+    let found = rank_all(t, &put_query(1, &[(7, 1), (9, 2)]), &wrong_score, 1, 1);
+    is(t, found, (8, 40));
+    let found = rank_all(t, &put_query(1, &[(9, 2)]), &wrong_score, 1, 1);
+    is(t, found, (0, 1));
+    let found = rank_all(t, &put_query(1, &[(7, 1)]), &put_blocks(7, &[&[(3, 6)], &[(8, 6)]]), 1, 1);
+    is(t, found, (0, 1));
+    let found = rank_all(t, &put_query(1, &[(7, 1)]), &[], 1, 1);
+    is(t, found, (0, 0));
+}
+
+fn refused_searches(t: &mut Tally) {
+    let right = put_query(2, &[(9, 2), (7, 1)]);
+    let found = rank_all(t, &right[..11], &[9], 0, 0);
+    is(t, found, (1, 4));
+    let found = rank_all(t, &right, &[9], 0, 0);
+    is(t, found, (6, 0));
+    // both lists have a wrong body; the query names the later list first
+    let mut shelf = m1_shelf();
+    shelf[36] = 9;
+    shelf[69] = 9;
+    for (docid_room, score_room, paper) in [(1, 2, (9, 0)), (2, 1, (9, 0)), (2, 2, (8, 32))] {
+        let found = rank_all(t, &right, &shelf, docid_room, score_room);
+        is(t, found, paper);
+    }
+    let found = rank_all(t, &put_query(1, &[(9, 2), (8, 1)]), &shelf, 1, 1);
+    is(t, found, (8, 65));
+}
+
+fn ranking_limits(t: &mut Tally) {
+    let shelf = pack(7, &run_of(101));
+    let found = rank_all(t, &put_query(100, &[(7, 3)]), &shelf, 100, 100);
+    is(t, found, (0, 100));
+    let lists: Vec<u8> = (1..=8).flat_map(|term| pack(term, &[(MAX_DOCID, 65_535)])).collect();
+    let terms: Vec<(u32, u8)> = (1..=8).map(|term| (term, 255)).collect();
+    let found = rank_all(t, &put_query(1, &terms), &lists, 1, 1);
+    is(t, found, (0, 1));
+    let (mut docid, mut score) = ([0], [0]);
+    let hits = tagmurlen::rank_all(&put_query(1, &terms), &lists, &mut docid, &mut score);
+    let right = hits == Ok(1) && (docid[0], score[0]) == (MAX_DOCID, 133_691_400);
+    t.note("the largest score", (!right).then(|| format!("{hits:?} {docid:?} {score:?}")));
 }
 
 fn queries(t: &mut Tally) {

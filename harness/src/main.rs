@@ -41,6 +41,15 @@ fn read_lists(t: &mut Tally, rng: &mut Rng, shelf: &[u8]) {
     compare::read_list(t, shelf, rng.pick(&[0, 3, u32::MAX]), 5, 5);
 }
 
+/// A query over a shelf's terms, right or now and then wrong, into rows enough or too few.
+fn searches(t: &mut Tally, rng: &mut Rng, shelf: &[u8]) {
+    let lists = walk(shelf).unwrap_or_default();
+    let terms: Vec<u32> = lists.iter().map(|l| l.term).collect();
+    let query = if rng.once_in(6) { generate::wrong_query(rng, &terms) } else { generate::query(rng, &terms) };
+    let (docid_room, score_room) = (rng.pick(&[100, 100, 101, 10, 1]), rng.pick(&[100, 100, 120, 2]));
+    compare::rank_all(t, &query, shelf, docid_room, score_room);
+}
+
 /// A shelf, sound and damaged, a query, right and wrong, and a run to write.
 fn one_round(t: &mut Tally, rng: &mut Rng) {
     let size = generate::size(rng);
@@ -53,9 +62,11 @@ fn one_round(t: &mut Tally, rng: &mut Rng) {
         damaged = generate::damage(rng, &damaged);
         compare::check(t, &damaged);
         read_lists(t, rng, &damaged);
+        searches(t, rng, &damaged);
     }
     compare::check(t, &generate::noise(rng));
     read_lists(t, rng, &shelf);
+    searches(t, rng, &shelf);
 
     let terms: Vec<u32> = walk(&shelf).map_or(Vec::new(), |lists| lists.iter().map(|l| l.term).collect());
     compare::check_query(t, &generate::query(rng, &terms));

@@ -61,3 +61,22 @@ pub fn write_list(term: u32, docids: &[u32], scores: &[u16], out: &mut [u8]) -> 
     });
     written.map(|bytes| bytes as usize)
 }
+
+/// The best k documents of a query, all its lists read, to the front of two runs; gives how many there are: numbers 1 to 5, 6, 7, 9, 8.
+pub fn rank_all(query: &[u8], shelf: &[u8], docids: &mut [u32], scores: &mut [u32]) -> Result<usize, Refusal> {
+    // SAFETY: as in `read_list`.
+    let ranked = answer(|value| unsafe {
+        raw::tagmurlen_rank_all(
+            query.as_ptr(),
+            query.len(),
+            shelf.as_ptr(),
+            shelf.len(),
+            docids.as_mut_ptr(),
+            docids.len(),
+            scores.as_mut_ptr(),
+            scores.len(),
+            value,
+        )
+    });
+    ranked.map(|hits| hits as usize)
+}

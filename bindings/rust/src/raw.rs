@@ -28,4 +28,16 @@ unsafe extern "C" {
         out_len: usize,
         value: *mut u64,
     ) -> u32;
+
+    pub fn tagmurlen_rank_all(
+        query: *const u8,
+        query_len: usize,
+        shelf: *const u8,
+        shelf_len: usize,
+        docids: *mut u32,
+        docids_len: usize,
+        scores: *mut u32,
+        scores_len: usize,
+        value: *mut u64,
+    ) -> u32;
 }

@@ -1,2 +1,3 @@
 -- The laws that the entry points' proofs cite.
 pub mod Reporting
+pub mod Ranks

@@ -1,2 +1,3 @@
 -- What a caller in C or Rust gets.
 pub mod Report
+pub mod Rows

@@ -3,3 +3,5 @@
 pub mod checks;
 pub mod lists;
 pub mod report;
+pub mod rows;
+pub mod searches;

@@ -44,18 +44,20 @@ fn right_summary(s: Summary, previous: u32) -> bool {
         && (count > 1 || s.least == s.greatest)
 }
 
-/// A gap number and how many bytes it takes.
+/// A gap number, and the bytes after it.
 #[inline]
-fn gap(body: &[u8]) -> Option<(u32, usize)> {
-    let first = *body.first()?;
-    if first < 0x80 {
-        return Some((u32::from(first), 1));
-    }
+fn gap(body: &[u8]) -> Option<(u32, &[u8])> {
+    let (&first, mut rest) = body.split_first()?;
     let mut value = u32::from(first & 0x7f);
-    for (i, &b) in body.iter().enumerate().take(4).skip(1) {
-        value |= u32::from(b & 0x7f) << (7 * i);
+    if first < 0x80 {
+        return Some((value, rest));
+    }
+    for shift in [7, 14, 21] {
+        let (&b, after) = rest.split_first()?;
+        value |= u32::from(b & 0x7f) << shift;
+        rest = after;
         if b < 0x80 {
-            return (b != 0).then_some((value, i + 1));
+            return (b != 0).then_some((value, rest));
         }
     }
     None
@@ -73,16 +75,16 @@ fn right_body(body: &[u8], s: Summary, mut posting: impl FnMut(u32, u16)) -> boo
     posting(docid, top);
     let mut rest = &body[2..];
     for _ in 1..s.count {
-        let Some((less_one, taken)) = gap(rest) else { return false };
-        let Some(score) = rest[taken..].first_chunk() else { return false };
-        let score = u16::from_be_bytes(*score);
+        let Some((less_one, after)) = gap(rest) else { return false };
+        let [high, low, after @ ..] = after else { return false };
+        let score = u16::from_be_bytes([*high, *low]);
         docid += less_one + 1;
         if score == 0 || docid > s.greatest {
             return false;
         }
         posting(docid, score);
         top = top.max(score);
-        rest = &rest[taken + 2..];
+        rest = after;
     }
     rest.is_empty() && docid == s.greatest && top == s.top
 }
