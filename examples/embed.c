@@ -1,4 +1,4 @@
-/* Writes a list, checks the shelf that it is, searches it, and shows a refusal. From the repository's root:
+/* Writes a list, rescores a sheet, searches, and shows a refusal. From the repository's root:
  *     rt staticlib embed && cc -Iinclude examples/embed.c target/staticlib/libembed.a -o target/embed && target/embed */
 #include "tagmurlen.h"
 #include <stdio.h>
@@ -7,23 +7,23 @@ int main(void) {
     const uint32_t sheets[] = {2, 4, 9};
     const uint16_t scores[] = {5, 3, 1};
     const uint8_t query[] = {0x20, 0, 1, 2, 0x21, 0, 5, 0, 0, 0, 7, 10}; /* the best 2 for term 7, weight 10 */
-    uint8_t shelf[64];
+    uint8_t first[64], shelf[64];
     uint32_t found[2], summed[2];
     uint64_t value = 0;
 
-    uint32_t number = tagmurlen_write_list(7, sheets, 3, scores, 3, shelf, sizeof shelf, &value);
+    uint32_t number = tagmurlen_write_list(7, sheets, 3, scores, 3, first, sizeof first, &value);
     printf("written: %u, %llu bytes\n", number, (unsigned long long)value);
-    size_t length = value;
 
-    number = tagmurlen_check(shelf, length, &value);
-    printf("checked: %s\n", number == TAGMURLEN_ACCEPTED ? "sound" : "not sound");
+    number = tagmurlen_set(first, value, 7, 9, 65535, shelf, sizeof shelf, &value); /* sheet 9 is raised to the top score */
+    printf("rescored: %u, %llu bytes\n", number, (unsigned long long)value);
+    size_t length = value;
 
     if (tagmurlen_rank_all(query, sizeof query, shelf, length, found, 2, summed, 2, &value) == TAGMURLEN_ACCEPTED)
         for (uint64_t i = 0; i < value; i++)
             printf("sheet %u scores %u\n", found[i], summed[i]);
 
-    shelf[18] = 9; /* the summary's greatest score, 5, is made larger than any score of the body */
+    shelf[17] = 0; /* the summary's greatest score is made smaller than that of sheet 9, as in the incident */
     number = tagmurlen_check(shelf, length, &value);
-    printf("changed: refused as %u at %llu\n", number, (unsigned long long)value);
+    printf("kept an old greatest score: refused as %u at %llu\n", number, (unsigned long long)value);
     return number == TAGMURLEN_BODY ? 0 : 1;
 }

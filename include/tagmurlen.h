@@ -62,6 +62,19 @@ uint32_t tagmurlen_write_list(uint32_t term, const uint32_t *docids, size_t doci
 uint32_t tagmurlen_rank_all(const uint8_t *query, size_t query_len, const uint8_t *shelf, size_t shelf_len,
                             uint32_t *docids, size_t docids_len, uint32_t *scores, size_t scores_len, uint64_t *value);
 
+/* The edits read one shelf and write another to the front of `out`, which must not overlap it. They store the new shelf's length. */
+
+/* Adds a posting or replaces its score: 10, 6, 7, 8, 11, 9. */
+uint32_t tagmurlen_set(const uint8_t *shelf, size_t shelf_len, uint32_t term, uint32_t docid, uint16_t score, uint8_t *out,
+                       size_t out_len, uint64_t *value);
+
+/* Removes a posting: 10, 6, 7, 8, 12, 11, 9. */
+uint32_t tagmurlen_clear(const uint8_t *shelf, size_t shelf_len, uint32_t term, uint32_t docid, uint8_t *out, size_t out_len,
+                         uint64_t *value);
+
+/* Removes a sheet from every list: 10, 6, 7, 8, 12, 11, 9. */
+uint32_t tagmurlen_withdraw(const uint8_t *shelf, size_t shelf_len, uint32_t docid, uint8_t *out, size_t out_len, uint64_t *value);
+
 #ifdef __cplusplus
 }
 #endif

@@ -1,6 +1,7 @@
 //! Each entry point of the archive beside the reference: its answer, and every run that was lent to it.
 
 use crate::lent::Lent;
+use crate::reference::edit::{self, Edit};
 use crate::reference::rank::{self, Hit};
 use crate::reference::{list, query, shelf, Refusal};
 use tagmurlen::raw;
@@ -127,4 +128,23 @@ pub fn rank_all(t: &mut Tally, query: &[u8], bytes: &[u8], docid_room: usize, sc
     t.note("rank_all's docids", docids.fault(&front_docids));
     t.note("rank_all's scores", scores.fault(&front_scores));
     archive
+}
+
+/// The answer, and the shelf that an accepted edit leaves.
+pub fn edit(t: &mut Tally, asked: Edit, bytes: &[u8], room: usize) -> (Answer, Vec<u8>) {
+    let mut out: Lent<u8> = Lent::new(room);
+    let run = out.run();
+    let (at, len, to, to_len) = (bytes.as_ptr(), bytes.len(), run.as_mut_ptr(), run.len());
+    let archive = call(|value| unsafe {
+        match asked {
+            Edit::Set(term, docid, score) => raw::tagmurlen_set(at, len, term, docid, score, to, to_len, value),
+            Edit::Clear(term, docid) => raw::tagmurlen_clear(at, len, term, docid, to, to_len, value),
+            Edit::Withdraw(docid) => raw::tagmurlen_withdraw(at, len, docid, to, to_len, value),
+        }
+    });
+    let reference = edit::edit(asked, bytes, room);
+    t.answers("an edit", archive, told(&reference, Vec::len));
+    let edited = reference.unwrap_or_default();
+    t.note("an edit's buffer", out.fault(&edited));
+    (archive, edited)
 }

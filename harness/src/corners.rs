@@ -1,7 +1,8 @@
 //! Corner cases by name, each with the answer that the paper gives, run through the archive and beside the reference.
 
-use crate::compare::{check, check_query, rank_all, read_list, write_list, Answer, Tally};
+use crate::compare::{check, check_query, edit, rank_all, read_list, write_list, Answer, Tally};
 use crate::generate::field_starts;
+use crate::reference::edit::Edit;
 use crate::reference::fields::put_field;
 use crate::reference::list::{pack, put_blocks, put_summary};
 use crate::reference::query::put_query;
@@ -18,7 +19,7 @@ pub fn all(t: &mut Tally) {
     }
 }
 
-const CORNERS: [(&str, fn(&mut Tally)); 21] = [
+const CORNERS: [(&str, fn(&mut Tally)); 26] = [
     ("the empty shelf", empty_shelf),
     ("the paper's shelf, and each of its bytes made another", each_byte_changed),
     ("a shelf cut short at every byte", cut_at_every_byte),
@@ -40,6 +41,11 @@ const CORNERS: [(&str, fn(&mut Tally)); 21] = [
     ("a search refused: 1 before 6, 6 before 9, 9 before 8, bad bodies in byte order", refused_searches),
     ("k 100 of 101 matches, and the largest score", ranking_limits),
     ("queries: k, terms, weights, repeats, cut at every byte", queries),
+    ("M9 and M10 by edits from the empty shelf", marked_edits),
+    ("edits: the same posting again, the greatest score lowered and cleared, the only posting of a block and of a list", small_edits),
+    ("edits: 6,400 postings and the 6,401st", fullest_list),
+    ("edits: the 1,025th list, and a shelf that would pass 1,048,576 bytes", fullest_shelf),
+    ("edits refused, and in which order", refused_edits),
 ];
 
 fn is(t: &mut Tally, archive: Answer, paper: Answer) {
@@ -417,5 +423,119 @@ fn queries(t: &mut Tally) {
     for end in 0..query.len() {
         let found = check_query(t, &query[..end]);
         is(t, found, [(1, 0), (1, 0), (1, 0), (1, 0), (3, 4)].get(end).copied().unwrap_or(if end == 12 { (0, 3) } else { (1, 4 + 8 * ((end as u64 - 4) / 8)) }));
+    }
+}
+
+/// Room for any shelf.
+const ROOM: usize = MAX_SHELF + 1;
+
+/// The shelf after some edits, each of which the paper accepts; each result is checked.
+fn after(t: &mut Tally, shelf: Vec<u8>, edits: &[Edit]) -> Vec<u8> {
+    edits.iter().fold(shelf, |shelf, &asked| {
+        let (answer, edited) = edit(t, asked, &shelf, ROOM);
+        is(t, answer, (0, edited.len() as u64));
+        let found = check(t, &edited);
+        is(t, found, (0, 0));
+        edited
+    })
+}
+
+/// One writing of a list beside the shelf that edits left.
+fn holds(t: &mut Tally, shelf: &[u8], writing: &[u8]) {
+    t.note("the bytes of one writing", (shelf != writing).then(|| format!("{shelf:?}, should be {writing:?}")));
+}
+
+fn marked_edits(t: &mut Tally) {
+    let m9 = after(t, Vec::new(), &[Edit::Set(5, 3, 6), Edit::Set(5, 8, 9), Edit::Set(5, 8, 2)]);
+    holds(t, &m9, &pack(5, &[(3, 6), (8, 2)]));
+    is(t, (0, u64::from(m9[17]) * 256 + u64::from(m9[18])), (0, 6));
+    let m10 = [(7, 2, 5), (7, 4, 3), (7, 9, 1), (9, 4, 4), (9, 6, 2)].map(|(term, docid, score)| Edit::Set(term, docid, score));
+    let m10 = after(t, Vec::new(), &m10);
+    is(t, (0, m10.len() as u64), (0, 59));
+}
+
+fn small_edits(t: &mut Tally) {
+    let list = pack(7, &[(2, 5), (4, 3), (9, 1)]);
+    let same = after(t, list.clone(), &[Edit::Set(7, 4, 3)]);
+    holds(t, &same, &list);
+    let lowered = after(t, list.clone(), &[Edit::Set(7, 2, 2)]);
+    holds(t, &lowered, &pack(7, &[(2, 2), (4, 3), (9, 1)]));
+    let cleared = after(t, list.clone(), &[Edit::Clear(7, 2)]);
+    holds(t, &cleared, &pack(7, &[(4, 3), (9, 1)]));
+    // M1's second block of term 7 holds sheet 9 alone, and a list that is not packed full is packed anew.
+    let gone = after(t, m1_shelf(), &[Edit::Withdraw(9)]);
+    holds(t, &gone, &[pack(7, &[(2, 5), (4, 3)]), pack(9, &[(4, 4), (6, 2)])].concat());
+    let emptied = after(t, [least_list(3), list.clone()].concat(), &[Edit::Withdraw(1)]);
+    holds(t, &emptied, &list);
+    let none = after(t, least_list(3), &[Edit::Clear(3, 1)]);
+    holds(t, &none, &[]);
+    let edges = after(t, Vec::new(), &[Edit::Set(u32::MAX, MAX_DOCID, 65_535), Edit::Set(0, 1, 1), Edit::Set(u32::MAX, 1, 1)]);
+    holds(t, &edges, &[pack(0, &[(1, 1)]), pack(u32::MAX, &[(1, 1), (MAX_DOCID, 65_535)])].concat());
+}
+
+fn fullest_list(t: &mut Tally) {
+    let nearly = pack(7, &run_of(6_399));
+    let full = after(t, nearly, &[Edit::Set(7, 6_400, 1)]);
+    holds(t, &full, &pack(7, &run_of(6_400)));
+    let (answer, _) = edit(t, Edit::Set(7, 6_401, 1), &full, ROOM);
+    is(t, answer, (11, 0));
+    let replaced = after(t, full, &[Edit::Set(7, 6_400, 9), Edit::Clear(7, 1), Edit::Set(7, 6_401, 1)]);
+    is(t, (0, replaced.len() as u64), (0, pack(7, &run_of(6_400)).len() as u64));
+}
+
+fn fullest_shelf(t: &mut Tally) {
+    let lists: Vec<u8> = (0..1_024).flat_map(least_list).collect();
+    let (answer, _) = edit(t, Edit::Set(5_000, 1, 1), &lists, ROOM);
+    is(t, answer, (11, 0));
+    after(t, lists.clone(), &[Edit::Set(9, 2, 1)]);
+    let without: Vec<u8> = (0..1_023).flat_map(least_list).collect();
+    after(t, without, &[Edit::Set(5_000, 1, 1)]);
+
+    let mut shelf = Vec::new();
+    let mut term = 0;
+    loop {
+        let next = pack(term, &run_of(6_400));
+        if shelf.len() + next.len() > MAX_SHELF {
+            break;
+        }
+        shelf.extend(next);
+        term += 1;
+    }
+    let mut last = 1;
+    while shelf.len() + pack(term, &run_of(last + 1)).len() <= MAX_SHELF {
+        last += 1;
+    }
+    shelf.extend(pack(term, &run_of(last)));
+    let (answer, _) = edit(t, Edit::Set(term, last + 1_000_000, 1), &shelf, ROOM);
+    is(t, answer, (11, 0));
+    after(t, shelf, &[Edit::Withdraw(6_400)]);
+}
+
+/// "Edits 10, 6/7, 8 (whole shelf), 12, 11, 9"
+fn refused_edits(t: &mut Tally) {
+    let shelf = m1_shelf();
+    let cut = &shelf[..50];
+    let mut wrong = shelf.clone();
+    wrong[30] = 3; // M5: the second summary's greatest score
+    for asked in [Edit::Set(7, 0, 1), Edit::Set(7, MAX_DOCID + 1, 1), Edit::Set(7, 1, 0), Edit::Clear(7, 0), Edit::Withdraw(MAX_DOCID + 1)] {
+        let (answer, _) = edit(t, asked, cut, 0);
+        is(t, answer, (10, 0));
+    }
+    for asked in [Edit::Set(7, 1, 1), Edit::Clear(8, 1), Edit::Withdraw(1)] {
+        let (answer, _) = edit(t, asked, cut, 0);
+        is(t, answer, (6, 45));
+        let (answer, _) = edit(t, asked, &wrong, 0);
+        is(t, answer, (8, 40));
+    }
+    for asked in [Edit::Clear(8, 2), Edit::Clear(7, 3), Edit::Withdraw(5)] {
+        let (answer, _) = edit(t, asked, &shelf, 0);
+        is(t, answer, (12, 0));
+    }
+    for asked in [Edit::Set(7, 2, 5), Edit::Clear(7, 2), Edit::Withdraw(4)] {
+        let length = edit(t, asked, &shelf, ROOM).1.len();
+        let (answer, _) = edit(t, asked, &shelf, length - 1);
+        is(t, answer, (9, 0));
+        let (answer, _) = edit(t, asked, &shelf, length);
+        is(t, answer, (0, length as u64));
     }
 }

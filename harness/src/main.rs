@@ -2,6 +2,7 @@
 //! A round with number r uses the seed N + r, so that `--seed (N + r) --rounds 1` replays it alone. The last line is `N compared, D differ`.
 
 use harness::compare::{self, Tally};
+use harness::reference::edit::Edit;
 use harness::reference::shelf::walk;
 use harness::rng::Rng;
 use harness::{corners, generate};
@@ -50,6 +51,33 @@ fn searches(t: &mut Tally, rng: &mut Rng, shelf: &[u8]) {
     compare::rank_all(t, &query, shelf, docid_room, score_room);
 }
 
+/// An edit of a term and a sheet that a shelf may hold, now and then out of range.
+fn an_edit(rng: &mut Rng, terms: &[u32]) -> Edit {
+    let term = if terms.is_empty() || rng.once_in(4) { rng.next() as u32 % 50 } else { rng.pick(terms) };
+    let docid = if rng.once_in(20) { rng.pick(&[0, 1, 16_777_215, 16_777_216]) } else { 1 + rng.next() as u32 % 300 };
+    let score = if rng.once_in(20) { rng.pick(&[0, 65_535]) } else { 1 + rng.next() as u16 % 900 };
+    match rng.next() % 4 {
+        0 => Edit::Clear(term, docid),
+        1 => Edit::Withdraw(docid),
+        _ => Edit::Set(term, docid, score),
+    }
+}
+
+/// A history from a shelf, each accepted result feeding the next; after each the checker's word.
+fn edits(t: &mut Tally, rng: &mut Rng, mut shelf: Vec<u8>, turns: usize) {
+    for _ in 0..turns {
+        let terms: Vec<u32> = walk(&shelf).map_or(Vec::new(), |lists| lists.iter().map(|l| l.term).collect());
+        let asked = an_edit(rng, &terms);
+        let room = if rng.once_in(10) { shelf.len() / 2 } else { 1_048_576 };
+        let ((number, _), edited) = compare::edit(t, asked, &shelf, room);
+        if number == 0 {
+            let (number, _) = compare::check(t, &edited);
+            t.note("an edited shelf is sound", (number != 0).then(|| format!("refused as {number}")));
+            shelf = edited;
+        }
+    }
+}
+
 /// A shelf, sound and damaged, a query, right and wrong, and a run to write.
 fn one_round(t: &mut Tally, rng: &mut Rng) {
     let size = generate::size(rng);
@@ -63,6 +91,7 @@ fn one_round(t: &mut Tally, rng: &mut Rng) {
         compare::check(t, &damaged);
         read_lists(t, rng, &damaged);
         searches(t, rng, &damaged);
+        edits(t, rng, damaged.clone(), 1);
     }
     compare::check(t, &generate::noise(rng));
     read_lists(t, rng, &shelf);
@@ -71,6 +100,9 @@ fn one_round(t: &mut Tally, rng: &mut Rng) {
     let terms: Vec<u32> = walk(&shelf).map_or(Vec::new(), |lists| lists.iter().map(|l| l.term).collect());
     compare::check_query(t, &generate::query(rng, &terms));
     compare::check_query(t, &generate::wrong_query(rng, &terms));
+
+    edits(t, rng, shelf, 4);
+    edits(t, rng, Vec::new(), 12);
 
     let (docids, scores) = generate::runs(rng);
     let room = rng.pick(&[0, 25, 400, 30_000, 60_000]);

@@ -80,3 +80,28 @@ pub fn rank_all(query: &[u8], shelf: &[u8], docids: &mut [u32], scores: &mut [u3
     });
     ranked.map(|hits| hits as usize)
 }
+
+/// Adds a posting or replaces its score: the new shelf to the front of `out`, and its length: numbers 10, 6, 7, 8, 11, 9.
+pub fn set(shelf: &[u8], term: u32, docid: u32, score: u16, out: &mut [u8]) -> Result<usize, Refusal> {
+    // SAFETY: as in `write_list`.
+    let edited = answer(|value| unsafe {
+        raw::tagmurlen_set(shelf.as_ptr(), shelf.len(), term, docid, score, out.as_mut_ptr(), out.len(), value)
+    });
+    edited.map(|bytes| bytes as usize)
+}
+
+/// Removes a posting: the new shelf to the front of `out`, and its length: numbers 10, 6, 7, 8, 12, 11, 9.
+pub fn clear(shelf: &[u8], term: u32, docid: u32, out: &mut [u8]) -> Result<usize, Refusal> {
+    // SAFETY: as in `write_list`.
+    let edited = answer(|value| unsafe {
+        raw::tagmurlen_clear(shelf.as_ptr(), shelf.len(), term, docid, out.as_mut_ptr(), out.len(), value)
+    });
+    edited.map(|bytes| bytes as usize)
+}
+
+/// Removes a sheet from every list: the new shelf to the front of `out`, and its length: numbers 10, 6, 7, 8, 12, 11, 9.
+pub fn withdraw(shelf: &[u8], docid: u32, out: &mut [u8]) -> Result<usize, Refusal> {
+    // SAFETY: as in `write_list`.
+    let edited = answer(|value| unsafe { raw::tagmurlen_withdraw(shelf.as_ptr(), shelf.len(), docid, out.as_mut_ptr(), out.len(), value) });
+    edited.map(|bytes| bytes as usize)
+}

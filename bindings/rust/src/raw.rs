@@ -40,4 +40,27 @@ unsafe extern "C" {
         scores_len: usize,
         value: *mut u64,
     ) -> u32;
+
+    pub fn tagmurlen_set(
+        shelf: *const u8,
+        shelf_len: usize,
+        term: u32,
+        docid: u32,
+        score: u16,
+        out: *mut u8,
+        out_len: usize,
+        value: *mut u64,
+    ) -> u32;
+
+    pub fn tagmurlen_clear(
+        shelf: *const u8,
+        shelf_len: usize,
+        term: u32,
+        docid: u32,
+        out: *mut u8,
+        out_len: usize,
+        value: *mut u64,
+    ) -> u32;
+
+    pub fn tagmurlen_withdraw(shelf: *const u8, shelf_len: usize, docid: u32, out: *mut u8, out_len: usize, value: *mut u64) -> u32;
 }

@@ -15,6 +15,7 @@ fn main() {
     checker();
     reader();
     writer();
+    edits();
     ranking();
 }
 
@@ -91,6 +92,33 @@ fn writer() {
         );
         let [archive, rust, copied] = times[..] else { unreachable!() };
         row(&format!("list of {n}"), archive, rust, copied, archive / n as f64);
+    }
+}
+
+/// An edit of the middle list against the check of the whole shelf, which is a part of it, and against a plain copy of the bytes.
+fn edits() {
+    println!("{:<26} {:>10} {:>10} {:>10} {:>10} {:>12}", "edits", "archive", "check", "arch/check", "arch/copy", "ns per byte");
+    for (name, size) in [("1 KiB", 1 << 10), ("64 KiB", 1 << 16), ("1 MiB", 1_000_000)] {
+        let shelf = shelf_of(size);
+        let term = (shelf.len() / 8_000) as u32 / 2;
+        let mut out = vec![0; 1 << 20];
+        let mut again = out.clone();
+        let mut copy = vec![0; shelf.len()];
+        let mut last = vec![0u32; 6_400];
+        let held = tagmurlen::read_list(&shelf, term, &mut last, &mut vec![0; 6_400]).expect("the list is there");
+        let docid = last[held / 2];
+        let times = best_of(
+            TURNS,
+            &mut [
+                &mut || assert!(tagmurlen::set(black_box(&shelf), term, docid, 7, &mut out).is_ok()),
+                &mut || assert!(tagmurlen::check(black_box(&shelf)).is_ok()),
+                &mut || black_box(&mut copy).copy_from_slice(black_box(&shelf)),
+                &mut || assert!(tagmurlen::withdraw(black_box(&shelf), docid, &mut again).is_ok()),
+            ],
+        );
+        let [set, check, copied, withdrawn] = times[..] else { unreachable!() };
+        row(&format!("set, shelf of {name}"), set, check, copied, set / shelf.len() as f64);
+        row(&format!("withdraw, shelf of {name}"), withdrawn, check, copied, withdrawn / shelf.len() as f64);
     }
 }
 
