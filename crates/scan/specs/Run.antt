@@ -2,6 +2,7 @@
 use Prim.Native.Nat.{ℕ, suc, _≤_, _<_}
 use mathlib.Core.Path.{_≡_}
 use mathlib.Core.List.{List, map}
+use lib.ListN.{drop}
 use Rattle.model.specs.Limits.{maxK}
 use Rattle.model.specs.Post.{docs}
 use Rattle.model.specs.Runs.{All, Asc}
@@ -13,6 +14,10 @@ use Rattle.rank.specs.declared.keep.Kept.{Kept}
 use Rattle.scan.specs.Heads.{InBuffers, OwnParts, terms}
 use Rattle.scan.specs.declared.head.Head.{Head}
 use Rattle.scan.specs.declared.run.After.{After}
+
+-- the heads from the n-th on are at their lists' ends
+abbrev pub Idle : (n : ℕ) → List Head → Type 0
+Idle n heads = All (λ h. none ≤ h .doc) (drop n heads)
 
 -- a run
 pub record Ready (ds ss : List ℕ) (heads : List Head) (last k : ℕ) (t : Kept) : Type 0 where

@@ -3,7 +3,7 @@ ghost use Prim.Native.Nat.{_≤_};
 ghost use Rattle.model.specs.Runs.{All};
 ghost use Rattle.rank.specs.Run.{none};
 ghost use Rattle.scan.specs.Heads.{InBuffers, OwnParts};
-ghost use Rattle.scan.specs.Run.{Ready, Ran, AllSkipped, Bounds, Searched};
+ghost use Rattle.scan.specs.Run.{Idle, Ready, Ran, AllSkipped, Bounds, Searched};
 use crate::head::Head;
 use rank::keep::Kept;
 
@@ -13,7 +13,23 @@ pub struct After {
     pub heads: [Head; 8],
 }
 
-// The documents up to the last docid: each is scored and handed to the keeper. Both passes over the heads stand here, so that no array of heads is handed on.
+// How many heads there are up to the last one that stands at a posting.
+fn in_use(heads: [Head; 8]) -> usize
+    ensures { λ r. ⌜ (r ≤ 8) × Idle r heads ⌝ }
+{
+    let mut n: usize = 8;
+    while 0 < n {
+        let h = heads[n - 1];
+        if h.doc < crate::head::END {
+            return n;
+        }
+        n -= 1;
+    }
+    0
+}
+
+// The documents up to the last docid: each is scored and handed to the keeper. Both passes over the heads stand here, so that no array of heads is handed on;
+// the heads past those in use are at their ends, and stay there.
 pub fn run(
     docs: &[u32; 800],
     scores: &[u16; 800],
@@ -25,6 +41,7 @@ pub fn run(
     requires { ⌜ Ready (now docs) (now scores) heads last k kept ⌝ }
     ensures { λ r. ⌜ Ran (now (docs .entry)) (now (scores .entry)) heads last k kept r ⌝ }
 {
+    let m = in_use(heads);
     let mut hs = heads;
     let mut best = kept.docids;
     let mut sums = kept.scores;
@@ -32,7 +49,7 @@ pub fn run(
     loop {
         let mut d: u32 = crate::head::END;
         let mut i: usize = 0;
-        while i < 8 {
+        while i < m {
             let h = hs[i];
             let e = h.doc;
             if e < d {
@@ -53,7 +70,7 @@ pub fn run(
         }
         let mut s: u32 = 0;
         let mut j: usize = 0;
-        while j < 8 {
+        while j < m {
             let h = hs[j];
             if h.doc == d {
                 s += (h.weight as u32) * (h.score as u32);

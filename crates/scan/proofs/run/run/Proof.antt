@@ -9,43 +9,50 @@ use native.Mathlib.Nat.{min-eq-right}
 use borrow.Author.Needs.{needs}
 use lib.ListN.{length, take, drop, getD, set, length-map}
 use Rattle.model.specs.Post.{postings}
-use Rattle.model.proofs.Lists.{map-here, map-past}
+use Rattle.model.proofs.Lists.{map-here}
 use Rattle.rank.specs.Run.{none, size}
 use Rattle.scan.specs.Heads.{blank, InBuffers, least, sumAt, stepIf, terms}
+use Rattle.scan.specs.Run.{Idle}
 use Rattle.scan.specs.declared.head.Head.{Head}
-use Rattle.scan.proofs.Heads.{least-top, least-turn, least-past, product, sum-past, All-at, step-turn, step-stay, sum-here, sum-stay}
+use Rattle.scan.proofs.Heads.{least-top, least-turn, least-past, product, sum-past, step-past, idle-step, All-at, step-turn, step-stay, sum-here, sum-stay}
 use Rattle.scan.proofs.Turns.{Running, running-none, running-turn, fewer-left, run-ended}
 use Rattle.scan.proofs.run.run.Statement.{statement}
 use Rattle.scan.proofs.run.run.Tie as tie
 
 -- the first pass
 abbrev Inv-loop2 : tie.InvT-loop2
-Inv-loop2 ds ss last k hs best sums n d₀ i₀ d i = (i ≤ 8) × (d ≤ none) × (least hs ≡ min d (least (drop i hs)))
+Inv-loop2 ds ss last k m hs best sums n d₀ i₀ d i = (i ≤ m) × (d ≤ none) × (least hs ≡ min d (least (drop i hs)))
 
 abbrev μ-loop2 : tie.MeasureT-loop2
-μ-loop2 ds ss last k hs best sums n d₀ i₀ d i = 8 - i
+μ-loop2 ds ss last k m hs best sums n d₀ i₀ d i = m - i
 
 -- the second pass
 abbrev Inv-loop3 : tie.InvT-loop3
-Inv-loop3 ds ss last k hs₀ best sums n d i s₀ j₀ hs s j =
-    (j ≤ 8) × (s ≤ 16711425 * j) × (hs ≡ map (stepIf ds ss d) (take j hs₀) ++ drop j hs₀) × (sumAt d hs₀ ≡ s + sumAt d (drop j hs₀))
+Inv-loop3 ds ss last k m hs₀ best sums n d i s₀ j₀ hs s j =
+    (j ≤ m) × (s ≤ 16711425 * j) × (hs ≡ map (stepIf ds ss d) (take j hs₀) ++ drop j hs₀) × (sumAt d hs₀ ≡ s + sumAt d (drop j hs₀))
 
 abbrev μ-loop3 : tie.MeasureT-loop3
-μ-loop3 ds ss last k hs₀ best sums n d i s₀ j₀ hs s j = 8 - j
+μ-loop3 ds ss last k m hs₀ best sums n d i s₀ j₀ hs s j = m - j
 
 abbrev Inv-loop : tie.InvT-loop
-Inv-loop ds ss last k hs₀ best₀ sums₀ n₀ hs best sums n = Running ds ss hs₀ last k (take n₀ (postings best₀ sums₀)) hs best sums n
+Inv-loop ds ss last k m hs₀ best₀ sums₀ n₀ hs best sums n = Running ds ss hs₀ last k (take n₀ (postings best₀ sums₀)) hs best sums n × Idle m hs
 
 abbrev μ-loop : tie.MeasureT-loop
-μ-loop ds ss last k hs₀ best₀ sums₀ n₀ hs best sums n = size (terms ds ss hs)
+μ-loop ds ss last k m hs₀ best₀ sums₀ n₀ hs best sums n = size (terms ds ss hs)
+
+in-use-requires : tie.Need-in-use-requires Inv-loop2 μ-loop2 Inv-loop3 μ-loop3 Inv-loop μ-loop
+in-use-requires c κs = search needs
 
 loop-holds : tie.Need-loop-holds Inv-loop2 μ-loop2 Inv-loop3 μ-loop3 Inv-loop μ-loop
 loop-holds c =
-    let st = c .before .before in
-    running-none _ _ _ _ _ _ _ _
-    (sym (length-map (st .args .kept .docids) (λ v. v)) ∙ st .good .1 .1 .1 .1 .1 .0 .1 .1 .0 .1 .0 .1)
-    (sym (length-map (st .args .kept .scores) (λ v. v)) ∙ st .good .1 .1 .1 .1 .1 .0 .1 .1 .1 .0 .1 .0 .1)
-    (st .good .1 .1 .0 .1 .0 .1) (st .pre .room) (st .pre .order) (st .pre .inside) (st .pre .parts)
+    let used = c .before .before in
+    let st = used .before in (
+      running-none _ _ _ _ _ _ _ _
+          (sym (length-map (st .args .kept .docids) (λ v. v)) ∙ st .good .1 .1 .1 .1 .1 .0 .1 .1 .0 .1 .0 .1)
+          (sym (length-map (st .args .kept .scores) (λ v. v)) ∙ st .good .1 .1 .1 .1 .1 .0 .1 .1 .1 .0 .1 .0 .1)
+          (st .good .1 .1 .0 .1 .0 .1) (st .pre .room) (st .pre .order) (st .pre .inside) (st .pre .parts),
+      used .in-use .ensures .1,
+    )
 
 loop2-holds : tie.Need-loop2-holds Inv-loop2 μ-loop2 Inv-loop3 μ-loop3 Inv-loop μ-loop
 loop2-holds c = (omega arith, omega arith, sym (min-eq-right (least-top (c .loop .hs))))
@@ -66,7 +73,7 @@ loop2-again : tie.Need-loop2-again Inv-loop2 μ-loop2 Inv-loop3 μ-loop3 Inv-loo
 loop2-again c =
     let at = c .before .before .before in
     let hs = at .before .loop .hs in
-    let l : length hs ≡ 8 = at .before .loop .inv .long in
+    let l : length hs ≡ 8 = at .before .loop .inv .0 .long in
     ⊎-elim
     (λ w. (omega arith, omega arith, at .loop2 .inv .2 ∙ least-turn hs (at .loop2 .i) (at .loop2 .d) (c .if1 .d) (omega arith) (omega arith)))
     (λ w. (omega arith, omega arith, at .loop2 .inv .2 ∙ least-turn hs (at .loop2 .i) (at .loop2 .d) (c .if1 .d) (omega arith) (omega arith)))
@@ -76,10 +83,12 @@ returns : tie.Need-returns Inv-loop2 μ-loop2 Inv-loop3 μ-loop3 Inv-loop μ-loo
 returns c =
     let two = c .before .before in
     let one = two .before in
-    let st = one .before .before .before in
-    let w = one .loop .inv in
+    let used = one .before .before .before in
+    let st = used .before in
+    let w = one .loop .inv .0 in
+    let all : two .loop2 .i ≡ used .in-use .result = omega (arith, two .loop2 .inv .0) in
     let e = run-ended (st .args .last) (two .loop2 .d) (st .args .docs .now) (st .args .scores .now) (one .loop .hs) (c .if2 .taken)
-    (sym (two .loop2 .inv .2 ∙ least-past (one .loop .hs) (two .loop2 .i) (two .loop2 .d) (omega (arith, w .long)) (two .loop2 .inv .1))) in
+    (sym (two .loop2 .inv .2 ∙ least-past (one .loop .hs) (two .loop2 .i) (two .loop2 .d) (rw all (one .loop .inv .1)) (two .loop2 .inv .1))) in
     record { kept = rw (e .0) at (w .hits); room = w .room; order = w .order; inside = w .inside; parts = w .parts; left = sym (e .1) ∙ w .left }
 
 loop3-holds : tie.Need-loop3-holds Inv-loop2 μ-loop2 Inv-loop3 μ-loop3 Inv-loop μ-loop
@@ -115,9 +124,11 @@ next-requires c κs =
     let three = c .before .before .before .before .before .before in
     let two = three .before .before .before in
     let one = two .before in
-    let st = one .before .before .before in
-    rw (three .loop3 .inv .2, map-here blank (stepIf (st .args .docs .now) (st .args .scores .now) (two .loop2 .d)) (one .loop .hs) (three .loop3 .j) (omega (arith, one .loop .inv .long)))
-    (All-at (InBuffers (st .args .docs .now) (st .args .scores .now)) (one .loop .hs) (three .loop3 .j) (omega (arith, one .loop .inv .long)) (one .loop .inv .inside))
+    let used = one .before .before .before in
+    let st = used .before in
+    let here : three .loop3 .j < length (one .loop .hs) = omega (arith, one .loop .inv .0 .long, c .before .before .before .before .before .loop3-test .taken, used .in-use .ensures .0) in
+    rw (three .loop3 .inv .2, map-here blank (stepIf (st .args .docs .now) (st .args .scores .now) (two .loop2 .d)) (one .loop .hs) (three .loop3 .j) here)
+    (All-at (InBuffers (st .args .docs .now) (st .args .scores .now)) (one .loop .hs) (three .loop3 .j) here (one .loop .inv .0 .inside))
 
 mul-hs : tie.Need-mul-hs Inv-loop2 μ-loop2 Inv-loop3 μ-loop3 Inv-loop μ-loop
 mul-hs c = search needs
@@ -136,13 +147,14 @@ loop3-again c =
     let three = c .before .before .before .before in
     let two = three .before .before .before in
     let one = two .before in
-    let st = one .before .before .before in
+    let used = one .before .before .before in
+    let st = used .before in
     let ds = st .args .docs .now in
     let ss = st .args .scores .now in
     let d = two .loop2 .d in
     let j = three .loop3 .j in
     let hs = one .loop .hs in
-    let l : j < length hs = omega (arith, one .loop .inv .long) in
+    let l : j < length hs = omega (arith, one .loop .inv .0 .long) in
     let inv = three .loop3 .inv in
     ⊎-elim
     (λ w. (
@@ -162,39 +174,47 @@ loop3-again c =
 offer-in-requires : tie.Need-offer-in-requires Inv-loop2 μ-loop2 Inv-loop3 μ-loop3 Inv-loop μ-loop
 offer-in-requires c κs =
     let one = c .before .before .before .before .before .before .before in
-    let w = one .loop .inv in
-    (w .best-long, w .sums-long, w .room, one .before .before .before .pre .most, one .before .before .before .pre .least, w .order)
+    let w = one .loop .inv .0 in
+    (w .best-long, w .sums-long, w .room, one .before .before .before .before .pre .most, one .before .before .before .before .pre .least, w .order)
 
 loop-less : tie.Need-loop-less Inv-loop2 μ-loop2 Inv-loop3 μ-loop3 Inv-loop μ-loop
 loop-less c =
     let three = c .before .before .before .before in
     let two = three .before .before .before in
     let one = two .before in
-    let st = one .before .before .before in
+    let used = one .before .before .before in
+    let st = used .before in
     let ds = st .args .docs .now in
     let ss = st .args .scores .now in
     let d = two .loop2 .d in
     let hs = one .loop .hs in
     let low : d ≤ st .args .last = three .before .if2 .left in
-    let small : d ≡ least hs = sym (two .loop2 .inv .2 ∙ least-past hs (two .loop2 .i) d (omega (arith, one .loop .inv .long)) (two .loop2 .inv .1)) in
-    let moved : three .loop3 .hs ≡ map (stepIf ds ss d) hs = three .loop3 .inv .2 ∙ map-past blank (stepIf ds ss d) hs (three .loop3 .j) (omega (arith, one .loop .inv .long)) in
-    rw moved (fewer-left (st .args .last) d ds ss hs (st .pre .below) low small (one .loop .inv .inside))
+    let all : two .loop2 .i ≡ used .in-use .result = omega (arith, two .loop2 .inv .0) in
+    let each : three .loop3 .j ≡ used .in-use .result = omega (arith, three .loop3 .inv .0) in
+    let under : d < none = omega (arith, st .pre .below) in
+    let small : d ≡ least hs = sym (two .loop2 .inv .2 ∙ least-past hs (two .loop2 .i) d (rw all (one .loop .inv .1)) (two .loop2 .inv .1)) in
+    let moved : three .loop3 .hs ≡ map (stepIf ds ss d) hs = three .loop3 .inv .2 ∙ step-past ds ss d hs (three .loop3 .j) under (rw each (one .loop .inv .1)) in
+    rw moved (fewer-left (st .args .last) d ds ss hs (st .pre .below) low small (one .loop .inv .0 .inside))
 
 loop-again : tie.Need-loop-again Inv-loop2 μ-loop2 Inv-loop3 μ-loop3 Inv-loop μ-loop
 loop-again c =
     let three = c .before .before .before .before in
     let two = three .before .before .before in
     let one = two .before in
-    let st = one .before .before .before in
+    let used = one .before .before .before in
+    let st = used .before in
     let ds = st .args .docs .now in
     let ss = st .args .scores .now in
     let d = two .loop2 .d in
     let hs = one .loop .hs in
     let low : d ≤ st .args .last = three .before .if2 .left in
-    let small : d ≡ least hs = sym (two .loop2 .inv .2 ∙ least-past hs (two .loop2 .i) d (omega (arith, one .loop .inv .long)) (two .loop2 .inv .1)) in
-    let moved : three .loop3 .hs ≡ map (stepIf ds ss d) hs = three .loop3 .inv .2 ∙ map-past blank (stepIf ds ss d) hs (three .loop3 .j) (omega (arith, one .loop .inv .long)) in
-    let sum : three .loop3 .s ≡ sumAt d hs = sym (three .loop3 .inv .3 ∙ sum-past d hs (three .loop3 .j) (three .loop3 .s) (omega (arith, one .loop .inv .long))) in
-    rw moved (running-turn ds ss _ _ _ _ hs _ _ _ d (three .loop3 .s) _ _ _ (one .loop .inv) (st .pre .below) low small sum (c .offer-in .ensures))
+    let all : two .loop2 .i ≡ used .in-use .result = omega (arith, two .loop2 .inv .0) in
+    let each : three .loop3 .j ≡ used .in-use .result = omega (arith, three .loop3 .inv .0) in
+    let under : d < none = omega (arith, st .pre .below) in
+    let small : d ≡ least hs = sym (two .loop2 .inv .2 ∙ least-past hs (two .loop2 .i) d (rw all (one .loop .inv .1)) (two .loop2 .inv .1)) in
+    let moved : three .loop3 .hs ≡ map (stepIf ds ss d) hs = three .loop3 .inv .2 ∙ step-past ds ss d hs (three .loop3 .j) under (rw each (one .loop .inv .1)) in
+    let sum : three .loop3 .s ≡ sumAt d hs = sym (three .loop3 .inv .3 ∙ sum-past d hs (three .loop3 .j) (three .loop3 .s) under (rw each (one .loop .inv .1))) in
+    rw moved (running-turn ds ss _ _ _ _ hs _ _ _ d (three .loop3 .s) _ _ _ (one .loop .inv .0) (st .pre .below) low small sum (c .offer-in .ensures), idle-step ds ss d hs (used .in-use .result) under (one .loop .inv .1))
 
 pub run-spec : {M : Type 1} → statement M
 run-spec =
@@ -206,6 +226,7 @@ run-spec =
     μ-loop3
     Inv-loop
     μ-loop
+    in-use-requires
     loop-holds
     loop2-holds
     mul-h
