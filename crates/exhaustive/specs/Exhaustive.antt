@@ -1,5 +1,5 @@
 -- What the exhaustive ranker answers. Order: "1, 2, 3, 4, 5, then 6/7, 9, 8". Assumes nothing.
-use Prim.Native.Nat.{ℕ}
+use Prim.Native.Nat.{ℕ, _≤_}
 use mathlib.Core.Path.{_≡_}
 use mathlib.Core.Bool.{cond}
 use mathlib.Core.List.{List}
@@ -40,4 +40,6 @@ noHits = record { docids = replicate maxK 0; scores = replicate maxK 0; n = 0 }
 
 pub record Answers (o : Outcome (List Hit)) (r : Ranked) : Type 0 where
   pub answer : paper r ≡ o
+  -- the keeper's count is the number of hits
+  pub few : r .kept .n ≤ maxK
   pub cleared : (n at : ℕ) → r .verdict ≡ Refused n at → r .kept ≡ noHits

@@ -189,6 +189,7 @@ pub record Mergeable (s ats counts : List ℕ) (k : ℕ) : Type 0 where
 pub record Merges (s ats counts weights : List ℕ) (k : ℕ) (r : Merged) : Type 0 where
   pub wrong : r .right ≡ false → faultAll (listsFrom s weights ats counts) ≡ none → ⊥
   pub ranked : r .right ≡ true → exhaustive anyList k (listsFrom s weights ats counts) ≡ done (keptOf (r .kept))
+  pub few : r .kept .n ≤ k
 
 -- ---- the first wrong body in byte order
 

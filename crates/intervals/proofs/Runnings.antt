@@ -413,6 +413,7 @@ module _ (s ends los his tops counts bodies weights : List ℕ) (k : ℕ) (first
                   (ap {B = List ℕ} (λ n. replicate n 3) left ∙ sym (all-three (drop (suc i) (spans anyList never maxDocid ls))))
                   ∙ ap {B = List ℕ} (λ z. z ++ drop (length firsts) mk) (sym (st .1)));
               opened = λ x. absurd (omega arith);
+              few = λ x. absurd (omega arith);
             }
 
     -- ---- past the last
@@ -426,4 +427,5 @@ module _ (s ends los his tops counts bodies weights : List ℕ) (k : ℕ) (first
           marked = sym (take-append-drop (length firsts) row) ∙ rw (w .past, d) (ap {B = List ℕ} (λ z. z ++ drop (length firsts) mk) (ap {B = List ℕ} (λ n. take n row) (sym e) ∙ sym (st .1)));
           opened = λ x. w .count ∙ count-phantom B ends weights most rises (chosen (take i row) firsts) (length ends) 0 (omega arith)
               ∙ ap {B = ℕ} (λ z. countMet (chosen z firsts) ls) (sym (st .1)) ∙ ap {B = ℕ} (λ z. countMet (chosen (book anyList never maxDocid k ls) z) ls) (ok .first);
+          few = λ x. w .room;
         }

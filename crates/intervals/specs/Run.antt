@@ -47,6 +47,7 @@ pub record Runs (shelf ends los his tops counts bodies weights : List ℕ) (k : 
   pub found : foundBy (length shelf) r ≡ pruned anyList never maxDocid k (listsIn (blockIn shelf los his tops counts bodies) ends weights)
   pub marked : marks′ ≡ book anyList never maxDocid k (listsIn (blockIn shelf los his tops counts bodies) ends weights) ++ drop (length starts) marks
   pub opened : length shelf ≤ r .wrong → r .opened ≡ blocksOpened anyList never maxDocid k (listsIn (blockIn shelf los his tops counts bodies) ends weights)
+  pub few : length shelf ≤ r .wrong → r .kept .n ≤ k
 
 -- the first n lists' places are before their first blocks
 pub record Begins (ends ats : List ℕ) (n : ℕ) : Type 0 where
