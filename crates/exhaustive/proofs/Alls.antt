@@ -1,6 +1,6 @@
 -- The exhaustive ranker's answer, by what the query's reader and the walk told. Assumes nothing.
 use Prim.Native.Nat.{ℕ, zero, suc, _-_, _≤_, _<_}
-use mathlib.Core.Path.{_≡_, refl, subst, _∙_}
+use mathlib.Core.Path.{_≡_, refl, ap, subst, _∙_}
 use mathlib.Core.Option.{some}
 use mathlib.Core.List.{List, _++_}
 use native.Mathlib.Omega.{arith}
@@ -30,7 +30,7 @@ use Rattle.exhaustive.specs.Lists.{listingsOf}
 use Rattle.exhaustive.specs.Exhaustive.{rankAll, Answers}
 use Rattle.exhaustive.specs.Merge.{Mergeable, listsFrom}
 use Rattle.exhaustive.specs.declared.all.Ranked.{Ranked}
-use Rattle.exhaustive.proofs.Founds.{zeros, atsOf, countsOf, all-walked, all-addressed, found-lists}
+use Rattle.exhaustive.proofs.Founds.{zeros, atsOf, countsOf, blanks, all-walked, all-addressed, all-lists, blank-ranked}
 
 pub answers-as : {o p : Outcome (List Hit)} {r : Ranked} → o ≡ p → Answers o r → Answers p r
 answers-as {o} {p} {r} e a = subst (λ (x : Outcome (List Hit)). Answers x r) e a
@@ -103,5 +103,9 @@ module _ (s : List ℕ) (x : Question) (c : Query) (h : Carries x c) (n : c .n �
       rw (ats-are, counts-are)
       (record { walked = all-walked s ls w (maxTerms - c .n) (askedTerms (x .terms)); addressed = all-addressed s ls w (maxTerms - c .n) (askedTerms (x .terms)); least = l; most = m })
 
+  -- past the terms asked there are lists without blocks
+  pub found-lists : listsFrom s (c .weights) (r .ats) (r .counts) ≡ listingsOf (x .terms) ls ++ blanks (maxTerms - c .n)
+  found-lists = rw (ats-are, counts-are, weights-are) (all-lists s ls w (maxTerms - c .n) (x .terms))
+
   pub found-same : (k : ℕ) → exhaustive anyList k (listsFrom s (c .weights) (r .ats) (r .counts)) ≡ exhaustive anyList k (listingsOf (x .terms) ls)
-  found-same k = rw (ats-are, counts-are, weights-are) (found-lists s ls k (maxTerms - c .n) (x .terms) w)
+  found-same k = ap (exhaustive anyList k) found-lists ∙ blank-ranked k (maxTerms - c .n) (listingsOf (x .terms) ls)

@@ -123,7 +123,7 @@ none-walked s = (record { room = omega arith; end = 0; bodied = refl }, rw (none
 abbrev pub zeros : ℕ → List ℕ
 zeros m = replicate m 0
 
-abbrev blanks : ℕ → List Listing
+abbrev pub blanks : ℕ → List Listing
 blanks m = replicate m (record { weight = 0; blocks = [] })
 
 zeros-walked : (s : List ℕ) (m : ℕ) → AllWalked s (zeros m) (zeros m)
@@ -154,7 +154,7 @@ module _ (s : List ℕ) (ls : List shelf.Listing) (e : walk s ≡ done ls) (m : 
   all-addressed [] = zeros-addressed m
   all-addressed (t ∷ ts) = (term-addressed s ls e t, all-addressed ts)
 
-  all-lists : (xs : List Asked) → listsFrom s (weightsOf xs ++ zeros m) (atsOf ls m (askedTerms xs)) (countsOf ls m (askedTerms xs)) ≡ listingsOf xs ls ++ blanks m
+  pub all-lists : (xs : List Asked) → listsFrom s (weightsOf xs ++ zeros m) (atsOf ls m (askedTerms xs)) (countsOf ls m (askedTerms xs)) ≡ listingsOf xs ls ++ blanks m
   all-lists [] = zeros-lists s m
   all-lists (x ∷ xs) = rw (term-left s ls e (x .term), all-lists xs)
 
@@ -195,6 +195,5 @@ blank-hits m ls =
     ∙ ap (map (hitAt B))
     (filter-same (λ d. anyList (holds A d) d) (λ d. anyList (holds B d) d) (heldFrom [] A) (λ d. blank-some d m ls) ∙ ap (filter (λ d. anyList (holds B d) d)) (blank-held m [] ls))
 
-pub found-lists : (s : List ℕ) (ls : List shelf.Listing) (k m : ℕ) (xs : List Asked) → walk s ≡ done ls
-    → exhaustive anyList k (listsFrom s (weightsOf xs ++ zeros m) (atsOf ls m (askedTerms xs)) (countsOf ls m (askedTerms xs))) ≡ exhaustive anyList k (listingsOf xs ls)
-found-lists s ls k m xs e = rw (all-lists s ls e m xs, blank-faults m (listingsOf xs ls), blank-hits m (listingsOf xs ls))
+pub blank-ranked : (k m : ℕ) (ls : List Listing) → exhaustive anyList k (ls ++ blanks m) ≡ exhaustive anyList k ls
+blank-ranked k m ls = rw (blank-faults m ls, blank-hits m ls)

@@ -17,7 +17,7 @@ use Rattle.shelf.specs.Blocks.{blocksLeft, Rests, Finds}
 use Rattle.shelf.specs.declared.blocks.Reading.{Reading}
 use Rattle.prune.specs.Prune.{faultOf, faultIn, earlier}
 use Rattle.exhaustive.specs.Lists.{bodyOf}
-use Rattle.exhaustive.specs.Merge.{onShelf, readingAt, faultLeft, startLefts, AllWalked, wrongHere}
+use Rattle.exhaustive.specs.Merge.{onShelf, readingAt, faultLeft, startLefts, Walked, AllWalked, wrongHere}
 use Rattle.exhaustive.proofs.Fillings.{noLeft}
 use Rattle.exhaustive.proofs.Opens.{lefts-at, lefts-long}
 
@@ -66,10 +66,10 @@ pub seeking-done : (s : List ℕ) (all : Option ℕ) (r : Reading) (w : Option �
 seeking-done s all r w e g = sym (earlier-end w) ∙ rw e at (g .goal)
 
 -- ---- all lists
-pub walked-at : (s : List ℕ) (t : ℕ) (as₀ cs : List ℕ) → t < length as₀ → t < length cs → AllWalked s as₀ cs → Rests s (readingAt (getD as₀ t 0) (getD cs t 0))
+pub walked-at : (s : List ℕ) (t : ℕ) (as₀ cs : List ℕ) → t < length as₀ → t < length cs → AllWalked s as₀ cs → Walked s (getD as₀ t 0) (getD cs t 0)
 walked-at s t [] cs a b w = absurd (omega arith)
 walked-at s t (x ∷ as₀) [] a b w = absurd (omega arith)
-walked-at s zero (x ∷ as₀) (c ∷ cs) a b w = w .0 .0
+walked-at s zero (x ∷ as₀) (c ∷ cs) a b w = w .0
 walked-at s (suc t) (x ∷ as₀) (c ∷ cs) a b w = walked-at s t as₀ cs (omega arith) (omega arith) (w .1)
 
 module _ (s as₀ cs : List ℕ) (n : length as₀ ≡ length cs) (t : ℕ) (w : Option ℕ) where

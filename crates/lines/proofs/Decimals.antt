@@ -74,6 +74,24 @@ numbers-short k [] all = omega arith
 numbers-short k (n ∷ ns) all =
     omega (arith, length-append (codes " " ++ decimal n) (numbers ns), decimal-short k n (all .0), numbers-short k ns (all .1))
 
+-- and none more than twenty
+most-digits : (m n : ℕ) → length (digits m n) ≤ m
+unfolding digits
+most-digits zero n = omega arith
+most-digits (suc m) n =
+    split (ltb n 10)
+    (λ e. rw e (omega arith))
+    (λ e. rw e (omega (arith, length-append (digits m (n / 10)) ((48 + n % 10) ∷ []), most-digits m (n / 10))))
+
+decimal-most : (n : ℕ) → length (decimal n) ≤ 20
+unfolding decimal
+decimal-most n = most-digits 20 n
+
+pub numbers-most : (ns : List ℕ) → length (numbers ns) ≤ 21 * length ns
+unfolding numbers
+numbers-most [] = omega arith
+numbers-most (n ∷ ns) = omega (arith, length-append (codes " " ++ decimal n) (numbers ns), decimal-most n, numbers-most ns)
+
 -- ---- the numbers from a place on
 
 pub numbers-more : (ns : List ℕ) (i : ℕ) → i < length ns → numbers (drop i ns) ≡ (codes " " ++ decimal (getD ns i 0)) ++ numbers (drop (i + 1) ns)

@@ -12,24 +12,24 @@ use Rattle.model.proofs.Lists.{split}
 use Rattle.rank.specs.Rank.{Hit}
 use Rattle.lines.specs.Text.{codes, word, hitLine, hitLines, intervalLine, intervalLines, lastOf, blockLine, refusalLine, Shown, text}
 use Rattle.lines.specs.Book.{Small, maxOutput}
-use Rattle.lines.proofs.Decimals.{numbers-short}
+use Rattle.lines.proofs.Decimals.{numbers-short, numbers-most}
 use Rattle.lines.proofs.Lines.{line-size}
 
 -- a number of 32 bits has ten digits at most
 abbrev Small32 : ℕ → Type 0
 Small32 n = n < 2 ^ 32
 
--- "H rank docid score"
-pub hit-short : (rank : ℕ) (h : Hit) → rank < 2 ^ 32 → (h .doc < 2 ^ 32) × (h .score < 2 ^ 32) → length (hitLine rank h) ≤ 35
-hit-short rank h r s =
+-- "H rank docid score", of any numbers: none has more than twenty digits
+pub hit-short : (rank : ℕ) (h : Hit) → length (hitLine rank h) ≤ 65
+hit-short rank h =
     let ns : List ℕ = rank ∷ h .doc ∷ h .score ∷ [] in
-    omega (arith, line-size (codes "H") ns (codes "\n"), numbers-short 9 ns (omega arith, (omega arith, (omega arith, tt))))
+    omega (arith, line-size (codes "H") ns (codes "\n"), numbers-most ns)
 
-pub hits-short : (rank : ℕ) (hs : List Hit) → rank + length hs < 2 ^ 32 → All (λ (h : Hit). (h .doc < 2 ^ 32) × (h .score < 2 ^ 32)) hs → length (hitLines rank hs) ≤ 35 * length hs
+pub hits-short : (rank : ℕ) (hs : List Hit) → length (hitLines rank hs) ≤ 65 * length hs
 unfolding hitLines
-hits-short rank [] r all = omega arith
-hits-short rank (h ∷ hs) r all =
-    omega (arith, length-append (hitLine rank h) (hitLines (rank + 1) hs), hit-short rank h (omega arith) (all .0), hits-short (rank + 1) hs (omega arith) (all .1))
+hits-short rank [] = omega arith
+hits-short rank (h ∷ hs) =
+    omega (arith, length-append (hitLine rank h) (hitLines (rank + 1) hs), hit-short rank h, hits-short (rank + 1) hs)
 
 word-short : (mark : ℕ) → length (codes (word mark)) ≤ 9
 word-short mark = split (eqb mark 1) (λ e. rw e (omega arith)) (λ e. rw e (omega arith))
@@ -58,14 +58,12 @@ intervals-short lim (x ∷ fs) (y ∷ cs) (m ∷ ms) l f c =
     )
 
 -- "B opened all"
-pub blocks-short : (opened all : ℕ) → Small32 opened → Small32 all → length (blockLine opened all) ≤ 24
-blocks-short opened all o a =
-    omega (arith, line-size (codes "B") (opened ∷ all ∷ []) (codes "\n"), numbers-short 9 (opened ∷ all ∷ []) (omega arith, (omega arith, tt)))
+pub blocks-short : (opened all : ℕ) → length (blockLine opened all) ≤ 44
+blocks-short opened all = omega (arith, line-size (codes "B") (opened ∷ all ∷ []) (codes "\n"), numbers-most (opened ∷ all ∷ []))
 
--- "R number offset", where the offset may be any 64-bit number
-pub refusal-short : (number offset : ℕ) → number < 10 ^ 20 → offset < 10 ^ 20 → length (refusalLine number offset) ≤ 44
-refusal-short number offset n o =
-    omega (arith, line-size (codes "R") (number ∷ offset ∷ []) (codes "\n"), numbers-short 19 (number ∷ offset ∷ []) (n, (o, tt)))
+-- "R number offset"
+pub refusal-short : (number offset : ℕ) → length (refusalLine number offset) ≤ 44
+refusal-short number offset = omega (arith, line-size (codes "R") (number ∷ offset ∷ []) (codes "\n"), numbers-most (number ∷ offset ∷ []))
 
 -- the length of a text by its three parts
 pub text-size : (x : Shown) →
@@ -81,9 +79,9 @@ text-short x s =
     omega (
       arith,
       text-size x,
-      hits-short 1 (x .hits) (omega (arith, s .few)) (s .hit),
+      hits-short 1 (x .hits),
       intervals-short maxDocid (x .firsts) (x .ceilings) (x .marks) (omega arith) (s .first) (s .ceiling),
-      blocks-short (x .opened) (x .all) (s .some) (s .whole),
+      blocks-short (x .opened) (x .all),
       s .few,
       s .rows,
     )

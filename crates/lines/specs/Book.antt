@@ -5,7 +5,6 @@ use mathlib.Core.List.{List}
 use lib.ListN.{length}
 use Rattle.model.specs.Limits.{maxK}
 use Rattle.model.specs.Runs.{All, Asc}
-use Rattle.rank.specs.Rank.{Hit}
 use Rattle.lines.specs.Text.{Shown}
 
 -- "one row per interval in three lent runs", the first docids rising from 1 or more
@@ -18,15 +17,12 @@ pub record Book (fs cs ms : List ℕ) : Type 0 where
 abbrev pub maxIntervals : ℕ
 maxIntervals = 1025
 
--- what a search can show: numbers of 32 bits, 100 hits and 1,025 intervals at most
+-- what a search can show: 100 hits and 1,025 intervals at most, these of numbers of 32 bits
 pub record Small (x : Shown) : Type 0 where
   pub few : length (x .hits) ≤ maxK
-  pub hit : All (λ (h : Hit). (h .doc < 2 ^ 32) × (h .score < 2 ^ 32)) (x .hits)
   pub rows : length (x .firsts) ≤ maxIntervals
   pub first : All (λ (n : ℕ). n < 2 ^ 32) (x .firsts)
   pub ceiling : All (λ (n : ℕ). n < 2 ^ 32) (x .ceilings)
-  pub some : x .opened < 2 ^ 32
-  pub whole : x .all < 2 ^ 32
 
 -- the room that every output has
 abbrev pub maxOutput : ℕ

@@ -46,7 +46,7 @@ wrong-in-requires c κs =
     let st = at .before .before in
     let a : length (st .args .t2) ≡ 8 = st .good .1 .0 .1 .0 .1 in
     let b : length (st .args .t3) ≡ 8 = st .good .1 .1 .0 .1 .0 .1 in
-    rw (c .reading-at .ensures) (walked-at (now (st .args .shelf)) (at .loop .t) (st .args .t2) (st .args .t3) (omega arith) (omega arith) (st .pre .0))
+    rw (c .reading-at .ensures) (walked-at (now (st .args .shelf)) (at .loop .t) (st .args .t2) (st .args .t3) (omega arith) (omega arith) (st .pre .0) .0)
 
 add-t : tie.Need-add-t Inv-loop μ-loop
 add-t c = search needs

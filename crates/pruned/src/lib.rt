@@ -1,0 +1,2 @@
+// The pruned ranker.
+pub mod search;

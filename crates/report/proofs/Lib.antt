@@ -1,0 +1,4 @@
+-- scratch
+pub mod Prints
+pub mod Finds
+pub mod Reports

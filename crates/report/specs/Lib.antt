@@ -1,0 +1,2 @@
+-- What the search program prints for its input.
+pub mod Report

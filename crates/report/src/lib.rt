@@ -1,0 +1,2 @@
+// The search program's output for its input.
+pub mod report;
