@@ -1,0 +1,100 @@
+-- The interval book of a search: "one row per interval", and when a row's interval is skipped. Assumes nothing.
+use Prim.Native.Nat.{ℕ, suc, _+_, _-_, _≤_, _<_}
+use mathlib.Core.Path.{_≡_}
+use mathlib.Core.Bool.{true}
+use mathlib.Core.Logic.{_⊎_, _↔_}
+use mathlib.Core.Option.{none, some}
+use mathlib.Core.List.{List, [], _∷_, _++_, map}
+use lib.ListN.{length, take, getD, replicate}
+use Rattle.model.specs.Limits.{maxDocid}
+use Rattle.model.specs.Outcome.{done}
+use Rattle.model.specs.Runs.{All}
+use Rattle.shelf.specs.Walk as shelf
+use Rattle.shelf.specs.Walk.{walk}
+use Rattle.query.specs.Query.{Question, asked}
+use Rattle.rank.specs.Rank.{Hit, sort, kth}
+use Rattle.rank.specs.Match.{within}
+use Rattle.prune.specs.Cut.{Listing, Interval, intervalsFrom, starts, lies, howMany, sees, ceilingAt, blockCount}
+use Rattle.prune.specs.Prune.{faultAt, chosen, countMet}
+use Rattle.pruned.specs.Pruned.{Answer, front}
+use Rattle.promises.specs.Served.{listsFor, intervalCount}
+
+-- row i of the book's three runs
+abbrev pub first : Answer → ℕ → ℕ
+first a i = getD (a .firsts) i 0
+
+abbrev pub ceiling : Answer → ℕ → ℕ
+ceiling a i = getD (a .ceilings) i 0
+
+abbrev pub mark : Answer → ℕ → ℕ
+mark a i = getD (a .marks) i 0
+
+-- the intervals that the book shows: each from its first docid up to the next one's, the last up to 16,777,215
+abbrev pub between : List ℕ → List Interval
+between [] = []
+between (f ∷ fs) = intervalsFrom maxDocid f fs
+
+abbrev pub shown : Answer → List Interval
+shown a = between (take (a .intervals) (a .firsts))
+
+-- "sheets with lower numbers" than an interval's first, of those that match
+abbrev pub below : ℕ → List Hit → List Hit
+below first hits = within 1 (first - 1) hits
+
+-- "its ceiling is zero or k sheets with lower numbers match and the kth best of them scores at least the ceiling"
+abbrev pub SkipRule : (k ceiling : ℕ) (lower : List Hit) → Type 0
+SkipRule k ceiling lower = (ceiling ≡ 0) ⊎ ((k ≤ length lower) × (ceiling ≤ kth k (sort lower)))
+
+-- what demand 3 says of the book of a search for k sheets among those that match
+pub record Booked (k : ℕ) (hits : List Hit) (a : Answer) : Type 0 where
+  -- "every sheet number is in exactly one interval"
+  pub partition : (d : ℕ) → 1 ≤ d → d ≤ maxDocid → howMany d (shown a) ≡ 1
+  -- "and an interval is skipped exactly when its ceiling is zero or k sheets with lower numbers match and the kth best of them scores at least the ceiling"
+  pub skipped : (i : ℕ) → i < a .intervals → (mark a i ≡ 0) ↔ SkipRule k (ceiling a i) (below (first a i) hits)
+  -- the others are opened
+  pub opened : (i : ℕ) → i < a .intervals → (mark a i ≡ 0) ⊎ (mark a i ≡ 1)
+
+-- what the paper says of the intervals of some lists, on which sheets score as `score` says
+pub record CutBy (ls : List Listing) (score : ℕ → ℕ) (a : Answer) : Type 0 where
+  -- "There are at most 1,025 intervals."
+  pub few : a .intervals ≤ 1025
+  -- "This is the smallest partition in which each docid of an interval meets the same block or gap in every list."
+  pub same : All (λ (v : Interval). (d : ℕ) → lies v d ≡ true → sees ls d ≡ sees ls (v .first)) (shown a)
+  pub smallest : (d e : ℕ) → d ≤ e → e ≤ maxDocid → ((z : ℕ) → d ≤ z → z ≤ e → sees ls z ≡ sees ls d) → All (λ (v : Interval). lies v d ≡ true → lies v e ≡ true) (shown a)
+  pub neighbours : (i : ℕ) → i + 1 < a .intervals → sees ls (first a i) ≡ sees ls (first a (suc i)) → ⊥
+  -- "The ceiling is the sum of weight times greatest score over the blocks met."
+  pub ceilings : (i : ℕ) → i < a .intervals → ceiling a i ≡ ceilingAt ls (first a i)
+  -- no score is above the ceiling of its interval
+  pub under : All (λ (v : Interval). (d : ℕ) → lies v d ≡ true → score d ≤ ceilingAt ls (v .first)) (shown a)
+  -- "the number of blocks met by an opened interval (each block once), the number of blocks in the query's lists"
+  pub opened : a .opened ≡ countMet (chosen (take (a .intervals) (a .marks)) (take (a .intervals) (a .firsts))) ls
+  pub blocks : a .blocks ≡ blockCount ls
+
+-- ---- a search that stops
+
+-- "the interval book shows how far the search came": every interval up to where it stopped was skipped or opened, and none past it was reached.
+-- "mark (0 skipped, 1 opened, 2 stopped here, 3 not reached)"
+pub record Stopped (marks : List ℕ) : Type 0 where
+  pub before : List ℕ
+  pub past : ℕ
+  pub passed : All (λ (m : ℕ). m ≤ 1) before
+  pub shows : marks ≡ before ++ (2 ∷ replicate past 3)
+
+-- what a search leaves that stopped at a wrong body, of which the tag stands at `at`: "the interval count is returned, the book is filled with marks 2
+-- and 3 where they apply", and the other counts are 0
+pub record Stopping (q s : List ℕ) (fs cs ms : List ℕ) (at : ℕ) (a : Answer) : Type 0 where
+  pub question : Question
+  pub faultless : asked q ≡ done question
+  pub lists : List shelf.Listing
+  pub walked : walk s ≡ done lists
+  pub intervals : a .intervals ≡ intervalCount question lists
+  pub firsts : a .firsts ≡ front (starts maxDocid (listsFor question lists)) fs
+  pub ceilings : a .ceilings ≡ front (map (ceilingAt (listsFor question lists)) (starts maxDocid (listsFor question lists))) cs
+  pub row : List ℕ
+  pub one-each : length row ≡ a .intervals
+  pub stopped : Stopped row
+  pub marks : a .marks ≡ front row ms
+  -- "Among several bad bodies met at once the first in byte order is named."
+  pub named : getD (map (faultAt (listsFor question lists)) (starts maxDocid (listsFor question lists))) (length (stopped .before)) none ≡ some at
+  pub opened : a .opened ≡ 0
+  pub blocks : a .blocks ≡ 0
