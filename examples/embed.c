@@ -4,25 +4,34 @@
 #include <stdio.h>
 
 int main(void) {
-    const uint32_t sheets[] = {2, 4, 9};
-    const uint16_t scores[] = {5, 3, 1};
     const uint8_t query[] = {0x20, 0, 1, 2, 0x21, 0, 5, 0, 0, 0, 7, 10}; /* the best 2 for term 7, weight 10 */
-    uint8_t first[64], shelf[64];
-    uint32_t found[2], summed[2];
+    uint32_t sheets[200];
+    uint16_t scores[200];
+    uint8_t first[1024], shelf[1024];
     uint64_t value = 0;
+    for (uint32_t i = 0; i < 200; i++) { /* in two blocks, 1 to 100 and 101 to 200 */
+        sheets[i] = i + 1;
+        scores[i] = 5;
+    }
 
-    uint32_t number = tagmurlen_write_list(7, sheets, 3, scores, 3, first, sizeof first, &value);
+    uint32_t number = tagmurlen_write_list(7, sheets, 200, scores, 200, first, sizeof first, &value);
     printf("written: %u, %llu bytes\n", number, (unsigned long long)value);
 
     number = tagmurlen_set(first, value, 7, 9, 65535, shelf, sizeof shelf, &value); /* sheet 9 is raised to the top score */
     printf("rescored: %u, %llu bytes\n", number, (unsigned long long)value);
     size_t length = value;
 
-    if (tagmurlen_rank_all(query, sizeof query, shelf, length, found, 2, summed, 2, &value) == TAGMURLEN_ACCEPTED)
+    uint32_t found[2], summed[2], firsts[TAGMURLEN_MAX_INTERVALS], ceilings[TAGMURLEN_MAX_INTERVALS];
+    uint8_t marks[TAGMURLEN_MAX_INTERVALS];
+    uint64_t intervals, opened, blocks;
+    number = tagmurlen_search(query, sizeof query, shelf, length, found, 2, summed, 2, firsts, TAGMURLEN_MAX_INTERVALS, ceilings,
+                              TAGMURLEN_MAX_INTERVALS, marks, TAGMURLEN_MAX_INTERVALS, &value, &intervals, &opened, &blocks);
+    if (number == TAGMURLEN_ACCEPTED)
         for (uint64_t i = 0; i < value; i++)
             printf("sheet %u scores %u\n", found[i], summed[i]);
+    printf("searched: %u, opened %llu of %llu blocks\n", number, (unsigned long long)opened, (unsigned long long)blocks);
 
-    shelf[17] = 0; /* the summary's greatest score is made smaller than that of sheet 9, as in the incident */
+    shelf[17] = 0; /* the first summary's greatest score is made smaller than that of sheet 9, as in the incident */
     number = tagmurlen_check(shelf, length, &value);
     printf("kept an old greatest score: refused as %u at %llu\n", number, (unsigned long long)value);
     return number == TAGMURLEN_BODY ? 0 : 1;

@@ -4,7 +4,8 @@
  * or the refusal's offset. It reads only what is lent to it, allocates nothing, keeps nothing, and may be called from any number of threads.
  *
  * A pointer is followed by how many elements it points to. It must be aligned and not NULL, even for 0 elements, and what a function may write
- * must not overlap anything else that is lent to the same call. A refusal leaves every output as it was. */
+ * must not overlap anything else that is lent to the same call. A refusal leaves every lent run as it was, but for the book of a search that
+ * stops at a wrong body. */
 #ifndef TAGMURLEN_H
 #define TAGMURLEN_H
 
@@ -43,6 +44,13 @@ enum tagmurlen_refusal {
     TAGMURLEN_NOT_THERE = 12      /* list, block or posting not there; a withdrawn docid in no list; at 0 */
 };
 
+enum tagmurlen_mark { /* of an interval, in a search's book */
+    TAGMURLEN_SKIPPED = 0,
+    TAGMURLEN_OPENED = 1,
+    TAGMURLEN_STOPPED = 2,    /* a block that it meets has a wrong body: 8 */
+    TAGMURLEN_NOT_REACHED = 3 /* it lies behind the one that stopped */
+};
+
 /* Checks a shelf: 6, 7, 8. Stores 0 for a sound shelf. */
 uint32_t tagmurlen_check(const uint8_t *shelf, size_t shelf_len, uint64_t *value);
 
@@ -61,6 +69,17 @@ uint32_t tagmurlen_write_list(uint32_t term, const uint32_t *docids, size_t doci
    Stores how many hits there are. The shorter run is the number of rows. */
 uint32_t tagmurlen_rank_all(const uint8_t *query, size_t query_len, const uint8_t *shelf, size_t shelf_len,
                             uint32_t *docids, size_t docids_len, uint32_t *scores, size_t scores_len, uint64_t *value);
+
+/* The same hits by the pruned search, which opens only the blocks that can still matter: 1 to 5, 6, 7, 9, 8 (the blocks it opens). On a shelf that
+   `tagmurlen_check` accepts they equal those of `tagmurlen_rank_all`. Stores how many hits there are.
+   It keeps a book in three runs, with a row for each interval of sheets: first docid, ceiling, mark (enum tagmurlen_mark). A run shorter than the
+   number of intervals is refused as 9; TAGMURLEN_MAX_INTERVALS rows are always enough.
+   Stores how many intervals there are, how many blocks were opened, and how many blocks the query's lists have: 0 each in a refusal, but 8 has
+   its number of intervals and a filled book, in which the interval that stopped is marked. */
+uint32_t tagmurlen_search(const uint8_t *query, size_t query_len, const uint8_t *shelf, size_t shelf_len,
+                          uint32_t *docids, size_t docids_len, uint32_t *scores, size_t scores_len,
+                          uint32_t *firsts, size_t firsts_len, uint32_t *ceilings, size_t ceilings_len, uint8_t *marks, size_t marks_len,
+                          uint64_t *value, uint64_t *intervals, uint64_t *opened, uint64_t *blocks);
 
 /* The edits read one shelf and write another to the front of `out`, which must not overlap it. They store the new shelf's length. */
 

@@ -1,21 +1,27 @@
 //! Writes a list, rescores a sheet, searches, and shows a refusal. In `bindings/rust`: `cargo run --example embed`.
-use tagmurlen::{check, rank_all, set, write_list, Refusal};
+use std::error::Error;
+use tagmurlen::{check, search, set, write_list, Book, MAX_INTERVALS};
 
-fn main() -> Result<(), Refusal> {
-    let (mut first, mut shelf) = ([0; 64], [0; 64]);
-    let written = write_list(7, &[2, 4, 9], &[5, 3, 1], &mut first)?;
+fn main() -> Result<(), Box<dyn Error>> {
+    let sheets: Vec<u32> = (1..=200).collect(); // in two blocks, 1 to 100 and 101 to 200
+    let (mut first, mut shelf) = ([0; 1024], [0; 1024]);
+    let written = write_list(7, &sheets, &[5; 200], &mut first)?;
     println!("written: {written} bytes");
 
     let length = set(&first[..written], 7, 9, 65_535, &mut shelf)?; // sheet 9 is raised to the top score
     println!("rescored: {length} bytes");
 
     let query = [0x20, 0, 1, 2, 0x21, 0, 5, 0, 0, 0, 7, 10]; // the best 2 for term 7, weight 10
-    let (mut sheets, mut scores) = ([0; 2], [0; 2]);
-    for i in 0..rank_all(&query, &shelf[..length], &mut sheets, &mut scores)? {
-        println!("sheet {} scores {}", sheets[i], scores[i]);
+    let (mut docids, mut scores) = ([0; 2], [0; 2]);
+    let (mut firsts, mut ceilings, mut marks) = ([0; MAX_INTERVALS], [0; MAX_INTERVALS], [0; MAX_INTERVALS]);
+    let book = Book { firsts: &mut firsts, ceilings: &mut ceilings, marks: &mut marks };
+    let found = search(&query, &shelf[..length], &mut docids, &mut scores, book)?;
+    for i in 0..found.hits {
+        println!("sheet {} scores {}", docids[i], scores[i]);
     }
+    println!("opened {} of {} blocks", found.opened, found.blocks);
 
-    shelf[17] = 0; // the summary's greatest score is made smaller than that of sheet 9, as in the incident
+    shelf[17] = 0; // the first summary's greatest score is made smaller than that of sheet 9, as in the incident
     println!("kept an old greatest score: {}", check(&shelf[..length]).unwrap_err());
     Ok(())
 }

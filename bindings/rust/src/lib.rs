@@ -1,9 +1,12 @@
-//! Safe functions over the proved archive. Each reads only the slices it is given; an output stays as it was where the input is refused.
+//! Safe functions over the proved archive. Each reads only the slices it is given; an output stays as it was where the input is refused, but for the
+//! book of a search that stops at a wrong body.
 
 pub mod raw;
 mod refusal;
+mod search;
 
 pub use refusal::Refusal;
+pub use search::{search, Book, Searched, Stopped, MAX_INTERVALS};
 
 /// A call's answer: it was accepted where the number is 0, and `value` is then its result, otherwise the refusal's offset.
 fn answer(call: impl FnOnce(*mut u64) -> u32) -> Result<u64, Refusal> {

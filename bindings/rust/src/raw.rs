@@ -41,6 +41,27 @@ unsafe extern "C" {
         value: *mut u64,
     ) -> u32;
 
+    pub fn tagmurlen_search(
+        query: *const u8,
+        query_len: usize,
+        shelf: *const u8,
+        shelf_len: usize,
+        docids: *mut u32,
+        docids_len: usize,
+        scores: *mut u32,
+        scores_len: usize,
+        firsts: *mut u32,
+        firsts_len: usize,
+        ceilings: *mut u32,
+        ceilings_len: usize,
+        marks: *mut u8,
+        marks_len: usize,
+        value: *mut u64,
+        intervals: *mut u64,
+        opened: *mut u64,
+        blocks: *mut u64,
+    ) -> u32;
+
     pub fn tagmurlen_set(
         shelf: *const u8,
         shelf_len: usize,
