@@ -63,10 +63,14 @@ fn the_measures_searches_agree_with_the_reference() {
         for _ in 0..3 {
             let query = generate::query(rng, &terms);
             assert_eq!(tuned::search::rank_all(&query, &shelf, 100), rank_all(&query, &shelf, 100).map_err(pair), "seed {seed}");
-            let found = tuned::search::search(&query, &shelf, 100).map(|f| (f.hits, f.intervals, f.opened, f.blocks));
+            let found = tuned::search::search(&query, &shelf, 100).map(|f| (f.hits, f.book, f.opened, f.blocks));
             let reference = search(&query, &shelf, Room { rows: 100, book: 1025 });
-            let reference = reference.map(|f| (f.hits, f.book.firsts.len(), f.opened, f.blocks)).map_err(|s| pair(s.refusal));
+            let reference = reference.map(|f| (f.hits, f.book, f.opened, f.blocks)).map_err(|s| pair(s.refusal));
             assert_eq!(found, reference, "seed {seed}");
+            if check(&shelf).is_ok() {
+                let skipping = tuned::skipping::search(&query, &shelf, 100).map(|f| f.hits);
+                assert_eq!(skipping, rank_all(&query, &shelf, 100).map_err(pair), "seed {seed}");
+            }
             shelf = generate::damage(rng, &shelf);
         }
     }

@@ -1,5 +1,7 @@
 //! Measuring: the best of several short runs, taken in turn, so that a busy machine troubles all alike. Figures are ratios within one run.
 
+pub mod searching;
+
 use std::time::Instant;
 
 /// Nanoseconds of one call of each, the best of several turns.

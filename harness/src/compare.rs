@@ -1,39 +1,53 @@
 //! Each entry point of the archive beside the reference: its answer, and every run that was lent to it.
 
+pub mod search;
+
 use crate::lent::Lent;
 use crate::reference::edit::{self, Edit};
 use crate::reference::rank::{self, Hit};
 use crate::reference::{list, query, shelf, Refusal};
+use std::collections::{BTreeMap, BTreeSet};
 use tagmurlen::raw;
 
 /// What C gets: the number that is returned, and the value that is stored.
 pub type Answer = (u32, u64);
 
-/// How many answers and runs were compared, and how many differ.
+/// How many inputs were compared, each in its answer and in all that was lent with it, and how many differences were seen.
+#[derive(Default)]
 pub struct Tally {
     pub compared: u64,
     pub differ: u64,
+    /// How often each entry point gave each number, 0 where it accepted.
+    numbers: BTreeMap<(String, u32), u64>,
     /// What is being compared: a corner's name, or a seed to replay.
     pub case: String,
 }
 
 impl Tally {
-    pub fn new() -> Tally {
-        Tally { compared: 0, differ: 0, case: String::new() }
-    }
-
-    /// Counts a comparison, and prints it where there is something wrong.
+    /// Prints and counts what is wrong, where something is.
     pub fn note(&mut self, what: &str, wrong: Option<String>) {
-        self.compared += 1;
         if let Some(wrong) = wrong {
             self.differ += 1;
             println!("differs: {what}, {}: {wrong}", self.case);
         }
     }
 
+    /// Counts an input: its answer beside the reference's.
     pub fn answers(&mut self, what: &str, archive: Answer, reference: Answer) {
+        self.compared += 1;
+        *self.numbers.entry((what.to_string(), reference.0)).or_insert(0) += 1;
         let wrong = (archive != reference).then(|| format!("archive {archive:?}, reference {reference:?}"));
         self.note(what, wrong);
+    }
+
+    /// Prints how often each number was the answer: what the inputs reached.
+    pub fn print_numbers(&self) {
+        let entries: BTreeSet<&String> = self.numbers.keys().map(|(what, _)| what).collect();
+        for entry in entries {
+            let of_entry = self.numbers.iter().filter(|((what, _), _)| what == entry);
+            let counts: Vec<String> = of_entry.map(|((_, number), times)| format!("{number}: {times}")).collect();
+            println!("{entry} by number: {}", counts.join(", "));
+        }
     }
 }
 

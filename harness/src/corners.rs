@@ -1,5 +1,7 @@
 //! Corner cases by name, each with the answer that the paper gives, run through the archive and beside the reference.
 
+pub mod search;
+
 use crate::compare::{check, check_query, edit, rank_all, read_list, write_list, Answer, Tally};
 use crate::generate::field_starts;
 use crate::reference::edit::Edit;
@@ -11,7 +13,7 @@ use crate::reference::{Posting, MAX_DOCID, MAX_SHELF};
 
 /// Every corner. Each compares what it runs with the reference, and with the paper's answer that stands beside it.
 pub fn all(t: &mut Tally) {
-    for (name, corner) in CORNERS {
+    for (name, corner) in CORNERS.into_iter().chain(search::CORNERS) {
         t.case = format!("corner '{name}'");
         let before = t.differ;
         corner(t);
@@ -19,7 +21,10 @@ pub fn all(t: &mut Tally) {
     }
 }
 
-const CORNERS: [(&str, fn(&mut Tally)); 26] = [
+/// A corner's name, and what it runs.
+type Corner = (&'static str, fn(&mut Tally));
+
+const CORNERS: [Corner; 26] = [
     ("the empty shelf", empty_shelf),
     ("the paper's shelf, and each of its bytes made another", each_byte_changed),
     ("a shelf cut short at every byte", cut_at_every_byte),
@@ -48,8 +53,8 @@ const CORNERS: [(&str, fn(&mut Tally)); 26] = [
     ("edits refused, and in which order", refused_edits),
 ];
 
-fn is(t: &mut Tally, archive: Answer, paper: Answer) {
-    t.answers("the paper's answer", archive, paper);
+fn is<T: PartialEq + std::fmt::Debug>(t: &mut Tally, archive: T, paper: T) {
+    t.note("the paper's answer", (archive != paper).then(|| format!("archive {archive:?}, paper {paper:?}")));
 }
 
 /// The paper's shelf of 73 bytes.

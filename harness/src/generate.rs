@@ -144,6 +144,25 @@ pub fn damage(rng: &mut Rng, bytes: &[u8]) -> Vec<u8> {
     out
 }
 
+/// A shelf whose fields are right, with one thing wrong in a body: one of its bytes, or the summary's greatest score.
+pub fn damage_body(rng: &mut Rng, shelf: &[u8]) -> Vec<u8> {
+    let mut out = shelf.to_vec();
+    let of_tag = |tag: u8| field_starts(shelf).into_iter().filter(|&at| shelf[at] == tag).collect::<Vec<_>>();
+    let (summaries, bodies) = (of_tag(2), of_tag(3));
+    if bodies.is_empty() {
+        return out;
+    }
+    let body = rng.pick(&bodies);
+    let length = number(&shelf[body + 1..body + 3]) as usize;
+    match rng.within(1, 3) {
+        1 => out[rng.pick(&summaries) + 10] ^= 1 + rng.within(0, 3) as u8,
+        2 if length > 0 => out[body + 2 + rng.within(1, length)] = rng.pick(&[0, 1, 128, 255]),
+        _ if length > 0 => out[body + 2 + rng.within(1, length)] ^= 1 << rng.within(0, 7),
+        _ => {}
+    }
+    out
+}
+
 fn swapped(bytes: &[u8], a: usize, b: usize) -> Vec<u8> {
     let (a, b) = (a.min(b), a.max(b));
     let end = |at: usize| (at + 3 + number(&bytes[at + 1..at + 3]) as usize).min(bytes.len());
@@ -168,7 +187,8 @@ pub fn query(rng: &mut Rng, terms: &[u32]) -> Vec<u8> {
             asked.push((term, rng.pick(&[1, 1, 2, 7, 255])));
         }
     }
-    put_query(rng.pick(&[1, 1, 2, 3, 10, 100]), &asked)
+    let any = rng.within(1, 100) as u8;
+    put_query(rng.pick(&[1, 1, 2, 3, 10, 100, any, any]), &asked)
 }
 
 /// A query with one thing wrong: a number out of range, a term twice, or its bytes damaged.

@@ -22,6 +22,11 @@ impl<T: Copy + PartialEq + Debug + From<u8>> Lent<T> {
         &mut self.cells[MARGIN..MARGIN + self.len]
     }
 
+    /// The first `n` elements of the run as they stand now.
+    pub fn front(&self, n: usize) -> &[T] {
+        &self.cells[MARGIN..MARGIN + n.min(self.len)]
+    }
+
     /// What is wrong with it, where it should hold `front` and otherwise be as it was.
     pub fn fault(&self, front: &[T]) -> Option<String> {
         let mut expected = self.before.clone();

@@ -1,33 +1,52 @@
 //! The corners, then rounds of random inputs. `--seed N` and `--rounds N` choose them; without a seed it is taken from the clock.
-//! A round with number r uses the seed N + r, so that `--seed (N + r) --rounds 1` replays it alone. The last line is `N compared, D differ`.
+//! A round with number r uses the seed N + r, so that `--seed (N + r) --rounds 1` replays it alone. `--program PATH` runs that search program too:
+//! on the examples, and on an input of each of the first rounds. The last line is `N compared, D differ`, N being inputs.
 
+use harness::compare::search::Rooms;
 use harness::compare::{self, Tally};
+use harness::program::Program;
 use harness::reference::edit::Edit;
 use harness::reference::shelf::walk;
 use harness::rng::Rng;
 use harness::{corners, generate};
 use std::time::{SystemTime, UNIX_EPOCH};
 
+/// In how many rounds the program is run: a process for each input takes longer than a call.
+const PROGRAM_ROUNDS: u64 = 1_000;
+
 fn main() {
     let clock = SystemTime::now().duration_since(UNIX_EPOCH).map_or(1, |d| d.as_nanos() as u64 % 1_000_000_007);
     let seed = option("--seed").unwrap_or(clock);
-    let rounds = option("--rounds").unwrap_or(2_000);
-    let mut tally = Tally::new();
+    let rounds = option("--rounds").unwrap_or(4_000);
+    let mut tally = Tally::default();
     corners::all(&mut tally);
+    let program = word("--program").map(Program::at);
+    if let Some(program) = &program {
+        program.corners(&mut tally);
+    }
     println!("seed {seed}, {rounds} rounds");
     for round in 0..rounds {
         let seed = seed.wrapping_add(round);
         tally.case = format!("replay with --seed {seed} --rounds 1");
         one_round(&mut tally, &mut Rng::new(seed));
+        if let Some(program) = program.as_ref().filter(|_| round < PROGRAM_ROUNDS) {
+            let case = tally.case.clone();
+            program.compare(&mut tally, &case, &program_input(&mut Rng::new(!seed)));
+        }
     }
+    tally.print_numbers();
     println!("{} compared, {} differ", tally.compared, tally.differ);
     std::process::exit(i32::from(tally.differ > 0));
 }
 
+/// The word behind an option of the command line.
+fn word(name: &str) -> Option<String> {
+    std::env::args().skip_while(|w| w != name).nth(1)
+}
+
 /// The number behind an option of the command line.
 fn option(name: &str) -> Option<u64> {
-    let mut words = std::env::args().skip_while(|w| w != name).skip(1);
-    words.next().map(|w| w.parse().unwrap_or_else(|_| panic!("{name} takes a number")))
+    word(name).map(|w| w.parse().unwrap_or_else(|_| panic!("{name} takes a number")))
 }
 
 /// Some of a shelf's lists and one that it has not, into runs that have room or have not.
@@ -42,13 +61,60 @@ fn read_lists(t: &mut Tally, rng: &mut Rng, shelf: &[u8]) {
     compare::read_list(t, shelf, rng.pick(&[0, 3, u32::MAX]), 5, 5);
 }
 
-/// A query over a shelf's terms, right or now and then wrong, into rows enough or too few.
+/// The terms of a shelf's lists, none where its fields are wrong.
+fn terms_of(shelf: &[u8]) -> Vec<u32> {
+    walk(shelf).map_or(Vec::new(), |lists| lists.iter().map(|l| l.term).collect())
+}
+
+/// A query over a shelf's terms, right or now and then wrong.
+fn a_query(rng: &mut Rng, terms: &[u32]) -> Vec<u8> {
+    if rng.once_in(6) { generate::wrong_query(rng, terms) } else { generate::query(rng, terms) }
+}
+
+/// Both rankers on one query, into runs enough or too short.
 fn searches(t: &mut Tally, rng: &mut Rng, shelf: &[u8]) {
-    let lists = walk(shelf).unwrap_or_default();
-    let terms: Vec<u32> = lists.iter().map(|l| l.term).collect();
-    let query = if rng.once_in(6) { generate::wrong_query(rng, &terms) } else { generate::query(rng, &terms) };
+    let query = a_query(rng, &terms_of(shelf));
     let (docid_room, score_room) = (rng.pick(&[100, 100, 101, 10, 1]), rng.pick(&[100, 100, 120, 2]));
     compare::rank_all(t, &query, shelf, docid_room, score_room);
+    let told = compare::search::search(t, &query, shelf, Rooms::WIDE);
+    let (k, intervals) = (query.get(3).map_or(1, |&k| k.into()), told.counts[0].max(1) as usize);
+    compare::search::search(t, &query, shelf, tight_rooms(rng, k, intervals));
+}
+
+/// Runs as long as a search wants them, or one of them longer or one short.
+fn tight_rooms(rng: &mut Rng, k: usize, intervals: usize) -> Rooms {
+    let mut rooms = Rooms::of(k, intervals);
+    let changed = rng.pick(&[0, 1]) * rng.within(1, 5);
+    let to = |n: usize, rng: &mut Rng| if rng.once_in(2) { n.saturating_sub(1) } else { n + rng.within(1, 40) };
+    match changed {
+        1 => rooms.docids = to(k, rng),
+        2 => rooms.scores = to(k, rng),
+        3 => rooms.firsts = to(intervals, rng),
+        4 => rooms.ceilings = to(intervals, rng),
+        5 => rooms.marks = to(intervals, rng),
+        _ => {}
+    }
+    rooms
+}
+
+/// An input for the program: a query and a shelf, sound or damaged, the whole now and then damaged once more, or just too long.
+fn program_input(rng: &mut Rng) -> Vec<u8> {
+    let (size, spread) = (generate::size(rng), generate::spread(rng));
+    let mut shelf = generate::shelf(rng, size, spread);
+    let query = a_query(rng, &terms_of(&shelf));
+    match rng.within(1, 6) {
+        1 => shelf = generate::damage(rng, &shelf),
+        2 | 3 => shelf = generate::damage_body(rng, &shelf),
+        _ => {}
+    }
+    let mut input = [query, shelf].concat();
+    if rng.once_in(12) {
+        input = generate::damage(rng, &input);
+    }
+    if rng.once_in(30) {
+        input.resize(rng.pick(&[65_535, 65_536, 65_537]), 0x20);
+    }
+    input
 }
 
 /// An edit of a term and a sheet that a shelf may hold, now and then out of range.
@@ -66,9 +132,9 @@ fn an_edit(rng: &mut Rng, terms: &[u32]) -> Edit {
 /// A history from a shelf, each accepted result feeding the next; after each the checker's word.
 fn edits(t: &mut Tally, rng: &mut Rng, mut shelf: Vec<u8>, turns: usize) {
     for _ in 0..turns {
-        let terms: Vec<u32> = walk(&shelf).map_or(Vec::new(), |lists| lists.iter().map(|l| l.term).collect());
-        let asked = an_edit(rng, &terms);
-        let room = if rng.once_in(10) { shelf.len() / 2 } else { 1_048_576 };
+        let asked = an_edit(rng, &terms_of(&shelf));
+        // an edit adds a list of one posting at most, 25 bytes
+        let room = rng.pick(&[shelf.len() / 2, shelf.len(), shelf.len() + 25, shelf.len() + 25, shelf.len() + 25, shelf.len() + 1_000]);
         let ((number, _), edited) = compare::edit(t, asked, &shelf, room);
         if number == 0 {
             let (number, _) = compare::check(t, &edited);
@@ -95,9 +161,14 @@ fn one_round(t: &mut Tally, rng: &mut Rng) {
     }
     compare::check(t, &generate::noise(rng));
     read_lists(t, rng, &shelf);
-    searches(t, rng, &shelf);
+    let mut wrong_bodies = shelf.clone();
+    for _ in 0..3 {
+        searches(t, rng, &shelf);
+        wrong_bodies = generate::damage_body(rng, &wrong_bodies);
+        searches(t, rng, &wrong_bodies);
+    }
 
-    let terms: Vec<u32> = walk(&shelf).map_or(Vec::new(), |lists| lists.iter().map(|l| l.term).collect());
+    let terms = terms_of(&shelf);
     compare::check_query(t, &generate::query(rng, &terms));
     compare::check_query(t, &generate::wrong_query(rng, &terms));
 

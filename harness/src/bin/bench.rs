@@ -1,9 +1,8 @@
 //! The archive against the same in idiomatic Rust, and against a plain copy of the bytes: a table of ratios.
 
-use harness::bench::best_of;
+use harness::bench::{best_of, searching};
 use harness::generate::{self, Spread};
 use harness::reference::list::pack;
-use harness::reference::query::put_query;
 use harness::rng::Rng;
 use harness::tuned;
 use std::hint::black_box;
@@ -16,7 +15,7 @@ fn main() {
     reader();
     writer();
     edits();
-    ranking();
+    searching::table();
 }
 
 /// A sound shelf of about so many bytes: lists of 1,000 postings with gaps of one or two bytes.
@@ -119,37 +118,6 @@ fn edits() {
         let [set, check, copied, withdrawn] = times[..] else { unreachable!() };
         row(&format!("set, shelf of {name}"), set, check, copied, set / shelf.len() as f64);
         row(&format!("withdraw, shelf of {name}"), withdrawn, check, copied, withdrawn / shelf.len() as f64);
-    }
-}
-
-/// Eight lists of 6,400 postings each, whose docids meet.
-fn search_shelf(spread: Spread) -> Vec<u8> {
-    let mut rng = Rng::new(3);
-    (0..8).flat_map(|term| pack(term, &generate::postings(&mut rng, 6_400, 40, spread))).collect()
-}
-
-fn ranking() {
-    println!("{:<26} {:>10} {:>10} {:>10} {:>23}", "exhaustive search", "archive", "Rust", "arch/Rust", "ns per post.");
-    for spread in [Spread::Flat, Spread::Zipf] {
-        let shelf = search_shelf(spread);
-        for terms in [1, 2, 4, 8] {
-            for k in [1, 10, 100] {
-                let asked: Vec<(u32, u8)> = (0..terms).map(|t| (t, 1 + t as u8)).collect();
-                let query = put_query(k, &asked);
-                let (mut docids, mut scores) = ([0; 100], [0; 100]);
-                let times = best_of(
-                    TURNS / 4,
-                    &mut [
-                        &mut || assert!(tagmurlen::rank_all(black_box(&query), black_box(&shelf), &mut docids, &mut scores).is_ok()),
-                        &mut || assert!(black_box(tuned::search::rank_all(black_box(&query), black_box(&shelf), 100)).is_ok()),
-                    ],
-                );
-                let [archive, rust] = times[..] else { unreachable!() };
-                let per_posting = archive / (6_400.0 * f64::from(terms));
-                let name = format!("{spread:?}, {terms} terms, k {k}");
-                println!("{name:<26} {archive:>10.0} {rust:>10.0} {:>10.2} {per_posting:>23.2}", archive / rust);
-            }
-        }
     }
 }
 

@@ -12,7 +12,7 @@ pub const STOPPED: u8 = 2;
 pub const NOT_REACHED: u8 = 3;
 
 /// "The book has one row per interval in three lent runs: first docid, ceiling, mark."
-#[derive(Clone, Debug, PartialEq, Eq)]
+#[derive(Clone, Debug, Default, PartialEq, Eq)]
 pub struct Book {
     pub firsts: Vec<u32>,
     pub ceilings: Vec<u32>,
@@ -84,8 +84,8 @@ pub fn search(query: &[u8], shelf: &[u8], room: Room) -> Result<Found, Stopped> 
 fn take_intervals(k: usize, lists: &[Weighted], mut book: Book) -> Result<Found, Stopped> {
     let mut found: BTreeMap<u32, u32> = BTreeMap::new();
     let mut opened: BTreeSet<usize> = BTreeSet::new();
+    let mut best: Vec<Hit> = Vec::new();
     for i in 0..book.firsts.len() {
-        let best = first_k(&found, k);
         let ceiling = book.ceilings[i];
         if ceiling == 0 || best.len() == k && ceiling <= best[k - 1].1 {
             book.marks[i] = SKIPPED;
@@ -107,7 +107,8 @@ fn take_intervals(k: usize, lists: &[Weighted], mut book: Book) -> Result<Found,
                 }
             }
         }
+        best = first_k(&found, k);
     }
     let blocks = lists.iter().map(|l| l.blocks.len()).sum();
-    Ok(Found { hits: first_k(&found, k), book, opened: opened.len(), blocks })
+    Ok(Found { hits: best, book, opened: opened.len(), blocks })
 }

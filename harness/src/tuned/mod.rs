@@ -2,6 +2,7 @@
 
 pub mod list;
 pub mod search;
+pub mod skipping;
 
 use crate::reference::{MAX_BLOCKS, MAX_LISTS, MAX_SHELF, PER_BLOCK};
 

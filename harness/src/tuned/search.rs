@@ -1,36 +1,37 @@
 //! Both rankers, document by document with one accumulator; each body is read once, into a buffer.
 
 use super::{right_body, walk, Refusal, Summary};
+use crate::reference::prune::{Book, OPENED, SKIPPED};
 use crate::reference::query::{read_query, Query};
 use crate::reference::MAX_DOCID;
 
 /// No docid: the head of a list that is at its end, or in a gap.
-const NONE: u32 = u32::MAX;
+pub(super) const NONE: u32 = u32::MAX;
 
-struct Block<'a> {
-    summary: Summary,
+pub(super) struct Block<'a> {
+    pub(super) summary: Summary,
     body_at: usize,
     body: &'a [u8],
 }
 
 /// One of the query's lists: its blocks, the postings of the block that was read last, and the posting that it stands at.
-struct Head<'a> {
-    weight: u32,
-    blocks: Vec<Block<'a>>,
-    next_block: usize,
-    read: Vec<(u32, u16)>,
-    at: usize,
-    docid: u32,
+pub(super) struct Head<'a> {
+    pub(super) weight: u32,
+    pub(super) blocks: Vec<Block<'a>>,
+    pub(super) next_block: usize,
+    pub(super) read: Vec<(u32, u16)>,
+    pub(super) at: usize,
+    pub(super) docid: u32,
 }
 
 impl<'a> Head<'a> {
-    fn step(&mut self) {
+    pub(super) fn step(&mut self) {
         self.at += 1;
         self.docid = self.read.get(self.at).map_or(NONE, |p| p.0);
     }
 
     /// Reads a block into the buffer; the body's tag where it is wrong.
-    fn load(&mut self, block: usize) -> Result<(), usize> {
+    pub(super) fn load(&mut self, block: usize) -> Result<(), usize> {
         let Block { summary, body_at, body } = self.blocks[block];
         let read = &mut self.read;
         read.clear();
@@ -43,19 +44,23 @@ impl<'a> Head<'a> {
 }
 
 /// The k best so far, in order.
-struct Best {
+pub(super) struct Best {
     k: usize,
-    hits: Vec<(u32, u32)>,
+    pub(super) hits: Vec<(u32, u32)>,
 }
 
 impl Best {
+    pub(super) fn new(k: u8) -> Best {
+        Best { k: k.into(), hits: Vec::with_capacity(101) }
+    }
+
     /// The kth score, 0 before there are k.
-    fn threshold(&self) -> u32 {
+    pub(super) fn threshold(&self) -> u32 {
         if self.hits.len() < self.k { 0 } else { self.hits[self.k - 1].1 }
     }
 
     /// Docids come in rising order, so an equal score comes behind.
-    fn offer(&mut self, docid: u32, score: u32) {
+    pub(super) fn offer(&mut self, docid: u32, score: u32) {
         if score > self.threshold() {
             let place = self.hits.partition_point(|h| h.1 >= score);
             self.hits.insert(place, (docid, score));
@@ -64,7 +69,7 @@ impl Best {
     }
 }
 
-fn heads<'a>(query: &Query, shelf: &'a [u8]) -> Result<Vec<Head<'a>>, Refusal> {
+pub(super) fn heads<'a>(query: &Query, shelf: &'a [u8]) -> Result<Vec<Head<'a>>, Refusal> {
     let new = |weight: u8| Head { weight: weight.into(), blocks: Vec::new(), next_block: 0, read: Vec::with_capacity(100), at: 0, docid: NONE };
     let mut heads: Vec<Head> = query.terms.iter().map(|t| new(t.1)).collect();
     let (mut list, mut asked) = (usize::MAX, None);
@@ -104,7 +109,7 @@ pub fn rank_all(query: &[u8], shelf: &[u8], rows: usize) -> Result<Vec<(u32, u32
     if rows < usize::from(query.k) {
         return Err((9, 0));
     }
-    let mut best = Best { k: query.k.into(), hits: Vec::with_capacity(101) };
+    let mut best = Best::new(query.k);
     loop {
         let ended = |h: &&mut Head| h.docid == NONE && h.next_block < h.blocks.len();
         if heads.iter_mut().filter(ended).any(|h| h.load(h.next_block).is_err()) {
@@ -122,15 +127,15 @@ fn first_wrong(heads: &[Head]) -> usize {
     blocks.filter(|b| !right_body(b.body, b.summary, |_, _| ())).map(|b| b.body_at).min().unwrap_or(0)
 }
 
-/// What a pruned search finds: hits, intervals, blocks opened and blocks in all.
+/// What a pruned search finds: hits, its book, blocks opened and blocks in all.
 pub struct Pruned {
     pub hits: Vec<(u32, u32)>,
-    pub intervals: usize,
+    pub book: Book,
     pub opened: usize,
     pub blocks: usize,
 }
 
-/// The pruned ranking, in the order 1 to 5, 6/7, 9, 8. It keeps its book to itself.
+/// The pruned ranking, in the order 1 to 5, 6/7, 9, 8: the cuts sorted once, the ceilings in one pass a list, and each list read on from where it stands.
 pub fn search(query: &[u8], shelf: &[u8], rows: usize) -> Result<Pruned, Refusal> {
     let query = read_query(query).map_err(|r| (r.number, r.offset))?;
     let mut heads = heads(&query, shelf)?;
@@ -142,16 +147,18 @@ pub fn search(query: &[u8], shelf: &[u8], rows: usize) -> Result<Pruned, Refusal
     starts.sort_unstable();
     starts.dedup();
     let ceilings = ceilings(&heads, &starts);
-    let mut best = Best { k: query.k.into(), hits: Vec::with_capacity(101) };
+    let mut marks = vec![SKIPPED; starts.len()];
+    let mut best = Best::new(query.k);
     let mut opened = 0;
     for (i, &first) in starts.iter().enumerate() {
         if ceilings[i] > best.threshold() {
             opened += enter(&mut heads, first)?;
+            marks[i] = OPENED;
             run(&mut heads, starts.get(i + 1).map_or(MAX_DOCID, |next| next - 1), &mut best);
         }
     }
     let blocks = heads.iter().map(|h| h.blocks.len()).sum();
-    Ok(Pruned { hits: best.hits, intervals: starts.len(), opened, blocks })
+    Ok(Pruned { hits: best.hits, book: Book { firsts: starts, ceilings, marks }, opened, blocks })
 }
 
 fn ceilings(heads: &[Head], starts: &[u32]) -> Vec<u32> {
