@@ -5,7 +5,7 @@ use mathlib.Core.Bool.{_&&_}
 use mathlib.Core.List.{List, [], _∷_, _++_}
 use native.Mathlib.Omega.{arith}
 use native.Mathlib.Numerals.{add-one}
-use lib.ListN.{length, getD, take, drop, set, length-set}
+use lib.ListN.{length, getD, take, drop, set, length-set, take-append-drop}
 use lib.Seq.{take-suc, take-all, length-take-le}
 use Rattle.model.specs.Runs.{adds, has, Asc, All, Holds}
 use Rattle.prune.specs.Cut.{keepsCut, addCut, addCuts}
@@ -218,3 +218,8 @@ module _ (lim : ℕ) (los his old one : List ℕ) (m : ℕ) (h : Holds old (addC
 
     pub merge-whole : (new : List ℕ) (t : ℕ) → Holds run (take r both) new t → Holds run (addCuts lim (take n run) (edgesOf los his)) new t
     merge-whole new t j = rw merge-taken at j
+
+-- a list without blocks adds no cut
+pub none-added : (lim n : ℕ) (los his run : List ℕ) → length los ≡ 0 → n ≤ length run → Holds run (addCuts lim (take n run) (edgesOf los his)) run n
+none-added lim n [] his run e l = record { count = sym (length-take-le n run l); whole = sym (take-append-drop n run) }
+none-added lim n (x ∷ los) his run e l = absurd (omega arith)

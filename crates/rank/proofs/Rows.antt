@@ -1,7 +1,7 @@
 -- Lists with an element put in, and postings of docids beside scores. Assumes nothing.
 use Prim.Native.Nat.{ℕ, zero, suc, _+_, _-_, _≤_, _<_}
 use mathlib.Core.Path.{_≡_, refl, sym, ap, _∙_}
-use mathlib.Core.Bool.{true, false}
+use mathlib.Core.Bool.{false}
 use mathlib.Core.List.{List, [], _∷_, _++_}
 use native.Mathlib.Omega.{arith}
 use native.Mathlib.Numerals.{add-one}
@@ -82,25 +82,6 @@ rows-put (suc p) d s [] [] e = refl
 rows-put (suc p) d s [] (t ∷ ss) e = absurd (omega arith)
 rows-put (suc p) d s (c ∷ ds) [] e = absurd (omega arith)
 rows-put (suc p) d s (c ∷ ds) (t ∷ ss) e = ap {B = List Hit} (λ u. post c t ∷ u) (rows-put p d s ds ss (omega arith))
-
--- One turn of `place`
-module _ (xs : List Hit) (h : Hit) (i : ℕ) (passed : insert h xs ≡ take i xs ++ insert h (drop i xs)) where
-  pub place-here : i < length xs → ahead h (getD xs i (post 0 0)) ≡ true → insert h xs ≡ putAt i h xs
-  place-here l t = let e : drop i xs ≡ getD xs i (post 0 0) ∷ drop (suc i) xs = drop-cons xs i (post 0 0) l in
-      passed ∙ ap {B = List Hit} (λ r. take i xs ++ r) (ap (insert h) e ∙ rw t (ap {B = List Hit} (λ r. h ∷ r) (sym e)))
-
-  pub place-past : i < length xs → ahead h (getD xs i (post 0 0)) ≡ false → insert h xs ≡ take (i + 1) xs ++ insert h (drop (i + 1) xs)
-  place-past l t = let e : drop i xs ≡ getD xs i (post 0 0) ∷ drop (suc i) xs = drop-cons xs i (post 0 0) l in
-      passed ∙ rw (add-one i, e, t, take-suc xs i (post 0 0) l) (sym (append-snoc (take i xs) (getD xs i (post 0 0)) (insert h (drop (suc i) xs))))
-
-  pub place-end : length xs ≤ i → insert h xs ≡ putAt i h xs
-  place-end l = passed ∙ rw (none xs i l)
-    where
-      none : (ys : List Hit) (j : ℕ) → length ys ≤ j → drop j ys ≡ []
-      none [] zero m = refl
-      none [] (suc j) m = refl
-      none (y ∷ ys) zero m = absurd (omega arith)
-      none (y ∷ ys) (suc j) m = none ys j (omega arith)
 
 -- The whole of `keep`
 pub keep-rows : (ds ss : List ℕ) (n k p e d s : ℕ) → length ds ≡ length ss → n ≤ length ds → p ≤ n → p < e → n ≤ k → e ≤ length ds

@@ -1,12 +1,16 @@
 use Prim.Native.Nat.{_+_, _*_, _≤_}
 use mathlib.Core.Path.{_≡_, sym}
 use native.Mathlib.Omega.{arith}
+use denote.Ref.{now}
 use lib.ListN.{length, take}
 use lib.Seq.{length-take-le}
 use borrow.Author.Needs.{needs}
-use Rattle.prune.proofs.Gathers.{list-few, list-asc, merge-few, merge-whole}
+use Rattle.prune.proofs.Gathers.{list-few, list-asc, merge-few, merge-whole, none-added}
 use Rattle.prune.proofs.cut.add_list.Statement.{statement}
 use Rattle.prune.proofs.cut.add_list.Tie as tie
+
+returns : tie.Need-returns
+returns c = let st = c .before .before .before .before in none-added (st .args .lim) (st .args .n) (now (st .args .los)) (now (st .args .his)) (now (st .args .run)) (omega arith) (omega (arith, st .pre .2))
 
 slice-aggregate-list-cuts : tie.Need-slice-aggregate-list-cuts
 slice-aggregate-list-cuts c = search needs
@@ -19,22 +23,22 @@ slice-reshare-prefix-merge-cuts c = search needs
 
 slice-aggregate-merge-cuts : tie.Need-slice-aggregate-merge-cuts
 slice-aggregate-merge-cuts c =
-    let a = c .before .before .before .before .before .before .before .args in
-    let q = c .before .before .before .before .before .before .before .pre in
+    let a = c .before .before .before .before .before .before .before .before .args in
+    let q = c .before .before .before .before .before .before .before .before .pre in
     sym (length-take-le (a .n) (a .run .now) (omega (arith, q .2)))
 
 array-share-prefix-one : tie.Need-array-share-prefix-one
 array-share-prefix-one c =
-    let a = c .before .before .before .before .before .before .before .args in
-    let q = c .before .before .before .before .before .before .before .pre in
+    let a = c .before .before .before .before .before .before .before .before .args in
+    let q = c .before .before .before .before .before .before .before .before .pre in
     let p = c .before .before .list-cuts in
     let few : p .result ≤ 2 * length (a .los .now) = list-few (a .lim) (a .los .now) (a .his .now) _ (p .last .1 .1 .1 .0) (p .result) (p .ensures) in
     omega (arith, p .kept .1 .1 .1 .0, q .4)
 
 slice-aggregate-merge-cuts-2 : tie.Need-slice-aggregate-merge-cuts-2
 slice-aggregate-merge-cuts-2 c =
-    let a = c .before .before .before .before .before .before .before .before .args in
-    let q = c .before .before .before .before .before .before .before .before .pre in
+    let a = c .before .before .before .before .before .before .before .before .before .args in
+    let q = c .before .before .before .before .before .before .before .before .before .pre in
     let p = c .before .before .before .list-cuts in
     let few : p .result ≤ 2 * length (a .los .now) = list-few (a .lim) (a .los .now) (a .his .now) _ (p .last .1 .1 .1 .0) (p .result) (p .ensures) in
     sym (length-take-le (p .result) (p .last .1 .1 .1 .0) (omega (arith, p .kept .1 .1 .1 .0, q .4)))
@@ -44,8 +48,8 @@ slice-aggregate-merge-cuts-3 c = search needs
 
 merge-cuts-requires : tie.Need-merge-cuts-requires
 merge-cuts-requires c κs =
-    let a = c .before .before .before .before .before .before .before .before .before .args in
-    let q = c .before .before .before .before .before .before .before .before .before .pre in
+    let a = c .before .before .before .before .before .before .before .before .before .before .args in
+    let q = c .before .before .before .before .before .before .before .before .before .before .pre in
     let p = c .before .before .before .before .list-cuts in
     let few : p .result ≤ 2 * length (a .los .now) = list-few (a .lim) (a .los .now) (a .his .now) _ (p .last .1 .1 .1 .0) (p .result) (p .ensures) in
     let l1 : length (take (a .n) (a .run .now)) ≡ a .n = length-take-le (a .n) (a .run .now) (omega (arith, q .2)) in
@@ -57,8 +61,8 @@ slice-aggregate-copy-run c = search needs
 
 copy-run-requires : tie.Need-copy-run-requires
 copy-run-requires c κs =
-    let a = c .before .before .before .before .before .before .before .before .before .before .before .before .before .args in
-    let q = c .before .before .before .before .before .before .before .before .before .before .before .before .before .pre in
+    let a = c .before .before .before .before .before .before .before .before .before .before .before .before .before .before .args in
+    let q = c .before .before .before .before .before .before .before .before .before .before .before .before .before .before .pre in
     let p = c .before .before .before .before .before .before .before .before .list-cuts in
     let few : p .result ≤ 2 * length (a .los .now) = list-few (a .lim) (a .los .now) (a .his .now) _ (p .last .1 .1 .1 .0) (p .result) (p .ensures) in
     let m = c .before .before .before .merge-cuts in
@@ -68,10 +72,10 @@ copy-run-requires c κs =
 same-length : tie.Need-same-length
 same-length c = search needs
 
-returns : tie.Need-returns
-returns c =
-    let a = c .before .before .before .before .before .before .before .before .before .before .before .before .before .before .before .before .args in
-    let q = c .before .before .before .before .before .before .before .before .before .before .before .before .before .before .before .before .pre in
+returns-2 : tie.Need-returns-2
+returns-2 c =
+    let a = c .before .before .before .before .before .before .before .before .before .before .before .before .before .before .before .before .before .args in
+    let q = c .before .before .before .before .before .before .before .before .before .before .before .before .before .before .before .before .before .pre in
     let p = c .before .before .before .before .before .before .before .before .before .before .before .list-cuts in
     let few : p .result ≤ 2 * length (a .los .now) = list-few (a .lim) (a .los .now) (a .his .now) _ (p .last .1 .1 .1 .0) (p .result) (p .ensures) in
     let m = c .before .before .before .before .before .before .merge-cuts in
@@ -82,6 +86,7 @@ pub add-list-spec : {M : Type 1} → statement M
 add-list-spec =
     tie.close
     (tie.spec
+    returns
     slice-aggregate-list-cuts
     list-cuts-requires
     slice-reshare-prefix-merge-cuts
@@ -93,4 +98,4 @@ add-list-spec =
     slice-aggregate-copy-run
     copy-run-requires
     same-length
-    returns)
+    returns-2)
