@@ -29,10 +29,10 @@ use Rattle.edit.specs.Edits.{Withdraw, clearPost, every}
 use Rattle.edit.specs.Bytes.{Piece, pieceOf, pieces, joined, holds, clearPieces, changed, some, there, few, within, settled}
 use Rattle.edit.specs.Runs.{Runs, Clears}
 use Rattle.edit.specs.Seat.{packedBytes, fitting, May, Wide}
-use Rattle.edit.specs.Left.{postsAt, Sized, leftBytes, LeftOf, Measures}
+use Rattle.edit.specs.Left.{postsAt, Sought, Sized, leftBytes, LeftOf, Measures}
 use Rattle.edit.specs.declared.withdraw.Left.{Left}
-use Rattle.edit.proofs.Postings.{may-fit, clear-fit, clear-length, clear-same, clear-fewer}
-use Rattle.edit.proofs.Runnings.{runs-length, postings-own}
+use Rattle.edit.proofs.Postings.{may-fit, clear-fit, clear-length}
+use Rattle.edit.proofs.Runnings.{postings-own}
 use Rattle.edit.proofs.Pieces.{or-none, not-stopped, lists-nil, lists-inv, checked-sound, sound-lists, sound-shelved}
 use Rattle.edit.proofs.Changes.{rises-few}
 use Rattle.edit.proofs.Splices.{settled-none, settled-as, joined-unless, few-unless, length-unless, pieces-length, few-front}
@@ -41,6 +41,9 @@ use Rattle.edit.proofs.Sittings.{firsts, runs-postings, runs-may}
 
 -- ---- one list
 
+pub left-sought : {s : List ℕ} {p : Place} {ds ss : List ℕ} → Sized s p ds ss → Sought s p
+left-sought z = record { ready = z .fills .ready; right = z .fills .right; rise = z .may .rise }
+
 module _ {s : List ℕ} {p : Place} {n : ℕ} {ds ss d1 s1 : List ℕ} (z : Sized s p ds ss) (f : Filled s p ds ss d1 s1 n) where
   pub left-held : Runs d1 s1 n (postsAt s p)
   left-held = held-taken s p ds ss d1 s1 n (z .fills) f .held
@@ -48,12 +51,6 @@ module _ {s : List ℕ} {p : Place} {n : ℕ} {ds ss d1 s1 : List ℕ} (z : Size
   module _ {d m : ℕ} {d2 s2 : List ℕ} (c : Clears d n d1 s1 m d2 s2) where
     pub left-runs : Runs d2 s2 m (clearPost d (postsAt s p))
     left-runs = c .cleared (postsAt s p) left-held
-
-    pub not-held : m ≡ n → has d (docs (postsAt s p)) ≡ false
-    not-held e = clear-same d (postsAt s p) (omega (arith, runs-length d1 s1 n (postsAt s p) left-held, runs-length d2 s2 m (clearPost d (postsAt s p)) left-runs))
-
-    pub is-held : (m ≡ n → ⊥) → has d (docs (postsAt s p)) ≡ true
-    is-held e = clear-fewer d (postsAt s p) (λ (q : length (clearPost d (postsAt s p)) ≡ length (postsAt s p)). e (omega (arith, runs-length d1 s1 n (postsAt s p) left-held, runs-length d2 s2 m (clearPost d (postsAt s p)) left-runs)))
 
     pub left-may : May (firsts m d2) (firsts m s2)
     left-may =

@@ -13,4 +13,5 @@ pub mod Splices
 pub mod News
 pub mod Sittings
 pub mod Entries
+pub mod Seekings
 pub mod Lefts

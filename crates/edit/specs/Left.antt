@@ -4,10 +4,13 @@ use mathlib.Core.Path.{_≡_}
 use mathlib.Core.List.{List}
 use mathlib.Core.Bool.{cond}
 use lib.ListN.{length, take, drop}
-use Rattle.model.specs.Post.{Post, docs}
+use Rattle.model.specs.Post.{Post, docs, Rising}
 use Rattle.model.specs.Runs.{has}
 use Rattle.shelf.specs.Walk.{Listing, postsOf, blocksAt}
+use Rattle.shelf.specs.Check.{badBody}
+use Rattle.shelf.specs.Answers.{Ready}
 use Rattle.shelf.specs.declared.walk.Place.{Place}
+use Rattle.shelf.specs.declared.check.BadRead.the-variants.{NoBad}
 use Rattle.list.specs.Write.{Writable}
 use Rattle.list.specs.Fill.{Fillable}
 use Rattle.edit.specs.Edits.{clearPost, every}
@@ -18,6 +21,12 @@ use Rattle.edit.specs.declared.withdraw.Left.{Left}
 
 abbrev pub postsAt : List ℕ → Place → List Post
 postsAt s p = postsOf (blocksAt s (p .at) (p .count))
+
+-- a list of a sound shelf, as far as a docid is sought in it
+pub record Sought (s : List ℕ) (p : Place) : Type 0 where
+  pub ready : Ready s p
+  pub right : badBody (blocksAt s (p .at) (p .count)) ≡ NoBad
+  pub rise : Rising 0 (postsAt s p)
 
 -- a list of a sound shelf, and room for its postings
 pub record Sized (s : List ℕ) (p : Place) (ds ss : List ℕ) : Type 0 where

@@ -22,19 +22,19 @@ pub struct Left {
     pub held: bool,
 }
 
-// What is left of a list.
+// What is left of a list: one that does not hold the docid is not read whole.
 fn list_left(s: &[u8], list: Place, d: u32, docs: &mut [u32], scores: &mut [u16]) -> Left
     requires { ⌜ Sized (now s) list (now docs) (now scores) ⌝ }
     ensures { λ r. ⌜ LeftOf (now (s .entry)) list d r ⌝ }
 {
-    let n = list::read::fill(s, list, docs, scores);
-    let m = crate::runs::without(docs, scores, n, d);
-    if m == n {
+    if !crate::holds::holds(s, list, d) {
         return Left {
             bytes: list.next - list.at,
             held: false,
         };
     }
+    let n = list::read::fill(s, list, docs, scores);
+    let m = crate::runs::without(docs, scores, n, d);
     Left {
         bytes: crate::splice::new_len(&docs[0..m], &scores[0..m]),
         held: true,
@@ -54,13 +54,13 @@ fn put_left(
     requires { ⌜ Sized (now s) list (now docs) (now scores) × (at + length (leftBytes (now s) list d) ≤ length (now out)) ⌝ }
     ensures { λ r. ⌜ Stored (now (out .entry)) (now (out .exit)) at r (leftBytes (now (s .entry)) list d) ⌝ }
 {
-    let n = list::read::fill(s, list, docs, scores);
-    let m = crate::runs::without(docs, scores, n, d);
-    if m == n {
+    if !crate::holds::holds(s, list, d) {
         let from = list.at;
         let to = list.next;
         return crate::copy::copy(out, at, s, from, to);
     }
+    let n = list::read::fill(s, list, docs, scores);
+    let m = crate::runs::without(docs, scores, n, d);
     let term = list.term;
     crate::splice::put_new(out, at, term, &docs[0..m], &scores[0..m])
 }

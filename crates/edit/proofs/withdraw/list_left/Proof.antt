@@ -1,37 +1,35 @@
--- `edit::list_left` meets its contract: the postings read, the docid taken out, and the bytes as they stand or packed anew (`Lefts`). Assumes nothing.
+-- `edit::list_left` meets its contract: the bytes as they stand, or the postings read, the docid taken out, and packed anew (`Lefts`). Assumes nothing.
 use denote.Ref.{now}
 use native.Mathlib.Omega.{arith}
 use borrow.Author.Needs.{needs}
-use mathlib.Core.Path.{ap, _∙_}
+use borrow.Author.Tests.{not-true, not-false}
+use mathlib.Core.Path.{sym, ap, _∙_}
 use mathlib.Core.List.{List}
 use Prim.Native.Nat.{ℕ}
 use lib.ListN.{length}
-use Rattle.edit.proofs.Lefts.{left-held, left-runs, not-held, is-held, left-may, left-new, left-none, left-some}
+use Rattle.edit.proofs.Lefts.{left-sought, left-held, left-runs, left-may, left-new, left-none, left-some}
 use Rattle.edit.proofs.withdraw.list_left.Statement.{statement}
 use Rattle.edit.proofs.withdraw.list_left.Tie as tie
 
-fill-requires : tie.Need-fill-requires
-fill-requires c κs = c .before .before .before .before .before .pre .fills
+holds-requires : tie.Need-holds-requires
+holds-requires c κs = left-sought (c .before .before .before .pre)
 
-without-requires : tie.Need-without-requires
-without-requires c κs =
-    let r = left-held (c .before .before .before .before .before .before .before .before .before .before .before .before .pre) (c .before .before .before .before .before .before .fill .ensures) in
-    (r .roomy, r .wide)
-
-sub-t17 : tie.Need-sub-t17
-sub-t17 c =
-    omega (arith, c .before .before .before .before .before .before .before .before .before .before .before .before .before .before .before .before .before .before .before .pre .order)
-
-same-length : tie.Need-same-length
-same-length c = search needs
-
-same-length-2 : tie.Need-same-length-2
-same-length-2 c = search needs
+sub-t10 : tie.Need-sub-t10
+sub-t10 c = omega (arith, c .before .before .before .before .before .before .pre .order)
 
 returns : tie.Need-returns
 returns c =
-    let b = c .before .before .before .before .before .before .before .before .before .before .before .before .before .before .before .before .before .before .before in
-    left-none (now (b .args .s)) (b .args .list) (b .args .d) (b .pre .order) (b .pre .inside) (not-held (c .before .before .before .before .before .before .before .before .before .before .before .before .before .before .before .before .before .before .before .pre) (c .before .before .before .before .before .before .before .before .before .before .before .before .before .fill .ensures) (c .before .before .before .before .before .before .without .ensures) (c .before .if1 .taken))
+    let b = c .before .before .before .before .before .before in
+    left-none (now (b .args .s)) (b .args .list) (b .args .d) (b .pre .order) (b .pre .inside) (sym (c .before .before .holds .ensures) ∙ not-true _ (c .before .if1 .taken))
+
+fill-requires : tie.Need-fill-requires
+fill-requires c κs = c .before .before .before .before .before .before .before .pre .fills
+
+without-requires : tie.Need-without-requires
+without-requires c κs =
+    let f = c .before .before .before .before .before .before in
+    let r = left-held (f .before .before .before .before .before .before .before .before .pre) (f .fill .ensures) in
+    (r .roomy, r .wide)
 
 sub-new-len : tie.Need-sub-new-len
 sub-new-len c = search needs
@@ -41,7 +39,9 @@ part-new-len-start c = omega arith
 
 part-new-len-end : tie.Need-part-new-len-end
 part-new-len-end c =
-    left-runs (c .before .before .before .before .before .before .before .before .before .before .before .before .before .before .before .before .before .before .before .pre) (c .before .before .before .before .before .before .before .before .before .before .before .before .before .fill .ensures) (c .before .before .before .before .before .before .without .ensures) .roomy
+    let w = c .before .before .before .before .before in
+    let f = w .before .before .before .before .before .before .before in
+    left-runs (f .before .before .before .before .before .before .before .before .pre) (f .fill .ensures) (w .without .ensures) .roomy
 
 sub-new-len-2 : tie.Need-sub-new-len-2
 sub-new-len-2 c = search needs
@@ -51,34 +51,40 @@ part-new-len-start-2 c = omega arith
 
 part-new-len-end-2 : tie.Need-part-new-len-end-2
 part-new-len-end-2 c =
-    left-runs (c .before .before .before .before .before .before .before .before .before .before .before .before .before .before .before .before .before .before .before .before .before .pre) (c .before .before .before .before .before .before .before .before .before .before .before .before .before .before .before .fill .ensures) (c .before .before .before .before .before .before .before .before .without .ensures) .wide
+    let w = c .before .before .before .before .before .before .before in
+    let f = w .before .before .before .before .before .before .before in
+    left-runs (f .before .before .before .before .before .before .before .before .pre) (f .fill .ensures) (w .without .ensures) .wide
 
 new-len-requires : tie.Need-new-len-requires
 new-len-requires c κs =
-    left-may (c .before .before .before .before .before .before .before .before .before .before .before .before .before .before .before .before .before .before .before .before .before .before .pre) (c .before .before .before .before .before .before .before .before .before .before .before .before .before .before .before .before .fill .ensures) (c .before .before .before .before .before .before .before .before .before .without .ensures)
+    let w = c .before .before .before .before .before .before .before .before in
+    let f = w .before .before .before .before .before .before .before in
+    left-may (f .before .before .before .before .before .before .before .before .pre) (f .fill .ensures) (w .without .ensures)
 
-same-length-3 : tie.Need-same-length-3
-same-length-3 c = search needs
+same-length : tie.Need-same-length
+same-length c = search needs
 
-same-length-4 : tie.Need-same-length-4
-same-length-4 c = search needs
+same-length-2 : tie.Need-same-length-2
+same-length-2 c = search needs
 
 returns-2 : tie.Need-returns-2
 returns-2 c =
-    let b = c .before .before .before .before .before .before .before .before .before .before .before .before .before .before .before .before .before .before .before .before .before .before .before in
+    let w = c .before .before .before .before .before .before .before .before .before in
+    let f = w .before .before .before .before .before .before .before in
+    let i = f .before .before .before in
+    let b = f .before .before .before .before .before .before .before .before in
     let t = b .args .list .term in
-    left-some (now (b .args .s)) (b .args .list) (b .args .d) _ (is-held (c .before .before .before .before .before .before .before .before .before .before .before .before .before .before .before .before .before .before .before .before .before .before .before .pre) (c .before .before .before .before .before .before .before .before .before .before .before .before .before .before .before .before .before .fill .ensures) (c .before .before .before .before .before .before .before .before .before .before .without .ensures) (c .before .before .before .before .before .if1 .left)) (c .new-len .ensures t ∙ ap (λ (x : List ℕ). length x) (left-new (c .before .before .before .before .before .before .before .before .before .before .before .before .before .before .before .before .before .before .before .before .before .before .before .pre) (c .before .before .before .before .before .before .before .before .before .before .before .before .before .before .before .before .before .fill .ensures) (c .before .before .before .before .before .before .before .before .before .before .without .ensures) t))
+    left-some (now (b .args .s)) (b .args .list) (b .args .d) _ (sym (i .before .holds .ensures) ∙ not-false _ (i .if1 .left)) (c .new-len .ensures t ∙ ap (λ (x : List ℕ). length x) (left-new (b .pre) (f .fill .ensures) (w .without .ensures) t))
 
 pub list-left-spec : {M : Type 1} → statement M
 list-left-spec =
     tie.close
     (tie.spec
+    holds-requires
+    sub-t10
+    returns
     fill-requires
     without-requires
-    sub-t17
-    same-length
-    same-length-2
-    returns
     sub-new-len
     part-new-len-start
     part-new-len-end
@@ -86,6 +92,6 @@ list-left-spec =
     part-new-len-start-2
     part-new-len-end-2
     new-len-requires
-    same-length-3
-    same-length-4
+    same-length
+    same-length-2
     returns-2)
