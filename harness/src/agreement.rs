@@ -76,6 +76,25 @@ fn the_measures_searches_agree_with_the_reference() {
     }
 }
 
+#[test]
+fn the_measures_edits_agree_with_the_reference() {
+    for seed in 0..ROUNDS {
+        let rng = &mut Rng::new(seed);
+        let (size, spread) = (generate::size(rng), generate::spread(rng));
+        let mut shelf = generate::shelf(rng, size, spread);
+        for _ in 0..4 {
+            let docid = rng.within(0, 40) as u32;
+            let (term, score, room) = (rng.within(0, 4) as u32, rng.within(0, 9) as u16, shelf.len() + rng.within(0, 30) as usize);
+            let mut out = vec![0; room];
+            let set = tuned::edit::set(&shelf, term, docid, score, &mut out).map(|n| out[..n].to_vec());
+            assert_eq!(set, edit(Edit::Set(term, docid, score), &shelf, room).map_err(pair), "seed {seed}");
+            let withdrawn = tuned::edit::withdraw(&shelf, docid, &mut out).map(|n| out[..n].to_vec());
+            assert_eq!(withdrawn, edit(Edit::Withdraw(docid), &shelf, room).map_err(pair), "seed {seed}");
+            shelf = if rng.within(0, 2) == 0 { generate::damage(rng, &shelf) } else { set.unwrap_or(shelf) };
+        }
+    }
+}
+
 /// Edits from the empty shelf: sound, with the postings that the accepted edits add up to, and the bytes of one writing of them.
 #[test]
 fn a_history_of_edits_is_one_writing() {

@@ -38,6 +38,7 @@ pub record Seeking (d : ℕ) (all rest : List Post) : Type 0 where
   pub rise : Rising 0 rest
   pub same : has d (docs all) ≡ has d (docs rest)
 
+-- postings that end below it do not hold it
 passed : (n d : ℕ) (ps : List Post) → Rising n ps → lastDoc n ps < d → has d (docs ps) ≡ false
 passed n d [] r l = refl
 passed n d (p ∷ ps) r l =
@@ -100,6 +101,7 @@ right-last m s e =
     let f : (eqb (lastDoc 0 ps) (m .greatest) && eqb (topScore 0 ps) (m .top)) ≡ true = rw (right-run m s e .1) at e in
     eqb-true _ _ (and-true (eqb (lastDoc 0 ps) (m .greatest)) (eqb (topScore 0 ps) (m .top)) f .0)
 
+-- no body that is left is wrong, and the docid is sought in their postings
 pub record Looking (s : List ℕ) (d : ℕ) (all : List Block) (r : Reading) : Type 0 where
   pub rests : Rests s r
   pub right : badBody (blocksLeft s r) ≡ NoBad

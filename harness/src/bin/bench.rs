@@ -94,14 +94,14 @@ fn writer() {
     }
 }
 
-/// An edit of the middle list against the check of the whole shelf, which is a part of it, and against a plain copy of the bytes.
+/// An edit of the middle list against the same in Rust and against a plain copy of the bytes. The check of the whole shelf is a part of it.
 fn edits() {
-    println!("{:<26} {:>10} {:>10} {:>10} {:>10} {:>12}", "edits", "archive", "check", "arch/check", "arch/copy", "ns per byte");
+    println!("{:<26} {:>10} {:>10} {:>10} {:>10} {:>12}", "edits", "archive", "Rust", "arch/Rust", "arch/copy", "ns per byte");
     for (name, size) in [("1 KiB", 1 << 10), ("64 KiB", 1 << 16), ("1 MiB", 1_000_000)] {
         let shelf = shelf_of(size);
         let term = (shelf.len() / 8_000) as u32 / 2;
-        let mut out = vec![0; 1 << 20];
-        let mut again = out.clone();
+        let mut outs = vec![vec![0; 1 << 20]; 4];
+        let [set_out, withdraw_out, set_same, withdraw_same] = &mut outs[..] else { unreachable!() };
         let mut copy = vec![0; shelf.len()];
         let mut last = vec![0u32; 6_400];
         let held = tagmurlen::read_list(&shelf, term, &mut last, &mut vec![0; 6_400]).expect("the list is there");
@@ -109,15 +109,16 @@ fn edits() {
         let times = best_of(
             TURNS,
             &mut [
-                &mut || assert!(tagmurlen::set(black_box(&shelf), term, docid, 7, &mut out).is_ok()),
-                &mut || assert!(tagmurlen::check(black_box(&shelf)).is_ok()),
+                &mut || assert!(tagmurlen::set(black_box(&shelf), term, docid, 7, set_out).is_ok()),
+                &mut || assert!(tuned::edit::set(black_box(&shelf), term, docid, 7, set_same).is_ok()),
+                &mut || assert!(tagmurlen::withdraw(black_box(&shelf), docid, withdraw_out).is_ok()),
+                &mut || assert!(tuned::edit::withdraw(black_box(&shelf), docid, withdraw_same).is_ok()),
                 &mut || black_box(&mut copy).copy_from_slice(black_box(&shelf)),
-                &mut || assert!(tagmurlen::withdraw(black_box(&shelf), docid, &mut again).is_ok()),
             ],
         );
-        let [set, check, copied, withdrawn] = times[..] else { unreachable!() };
-        row(&format!("set, shelf of {name}"), set, check, copied, set / shelf.len() as f64);
-        row(&format!("withdraw, shelf of {name}"), withdrawn, check, copied, withdrawn / shelf.len() as f64);
+        let [set, same_set, withdraw, same_withdraw, copied] = times[..] else { unreachable!() };
+        row(&format!("set, shelf of {name}"), set, same_set, copied, set / shelf.len() as f64);
+        row(&format!("withdraw, shelf of {name}"), withdraw, same_withdraw, copied, withdraw / shelf.len() as f64);
     }
 }
 

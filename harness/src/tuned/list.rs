@@ -47,7 +47,7 @@ fn gap_size(n: u32) -> usize {
 }
 
 /// How many bytes the list takes, or the first refusal in the order 11, 10.
-fn list_size(docids: &[u32], scores: &[u16]) -> Result<usize, Refusal> {
+pub(super) fn list_size(docids: &[u32], scores: &[u16]) -> Result<usize, Refusal> {
     if docids.len().max(scores.len()) > MAX_POSTINGS {
         return Err((11, 0));
     }

@@ -1,5 +1,6 @@
 //! The measure for the benchmarks: the same rules in idiomatic Rust, each byte looked at as seldom as may be.
 
+pub mod edit;
 pub mod list;
 pub mod search;
 pub mod skipping;

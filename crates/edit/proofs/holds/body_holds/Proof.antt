@@ -1,7 +1,6 @@
 -- `edit::holds::body_holds` meets its contract. The invariant: the docid is sought in the postings left (`Seekings`). Assumes nothing.
 use mathlib.Core.Path.{_≡_, sym, _∙_}
 use denote.Ref.{now}
-use native.Mathlib.Omega.{arith}
 use borrow.Author.Needs.{needs}
 use Rattle.block.specs.Cursor.{stepAt, runAt}
 use Rattle.block.specs.declared.cursor.Step.the-variants.{Posting, End, Bad}
