@@ -13,10 +13,10 @@ use Rattle.model.specs.Runs.{has}
 use Rattle.model.proofs.Lists.{split, and-true}
 use Rattle.shelf.specs.Walk.{Listing, postsOf}
 use Rattle.list.specs.Write.{Word, Words, wordsOf, Writable}
-use Rattle.edit.specs.Edits.{Edit, Set, Clear, Withdraw, setPost, clearPost, word, setWord, unlessEmpty, clearWords, only, every, applied, Termed}
-use Rattle.edit.specs.Bytes.{Piece, pieces, contents, bytesFor, postsFor, repacks, anew, setPiece, anewUnlessEmpty, holds, clearPieces, changed, docidIn, inRange, few}
-use Rattle.edit.proofs.Postings.{Fit, may-fit, Ranged, one-fit, set-fit, clear-fit, clear-absent}
-use Rattle.edit.proofs.Pieces.{Rises, anew-stands}
+use Rattle.change.specs.Edits.{Edit, Set, Clear, Withdraw, setPost, clearPost, word, setWord, unlessEmpty, clearWords, only, every, applied, Termed}
+use Rattle.change.specs.Bytes.{Piece, pieces, contents, bytesFor, postsFor, repacks, anew, setPiece, anewUnlessEmpty, holds, clearPieces, changed, docidIn, inRange, few}
+use Rattle.change.proofs.Postings.{Fit, may-fit, Ranged, one-fit, set-fit, clear-fit, clear-absent}
+use Rattle.change.proofs.Pieces.{Rises, anew-stands}
 
 -- ---- lists that are few enough
 

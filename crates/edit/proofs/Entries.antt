@@ -10,8 +10,8 @@ use Rattle.model.specs.Outcome.{Outcome, refused, done, andThen}
 use Rattle.model.proofs.Lists.{and-false}
 use Rattle.shelf.specs.Walk.{Listing}
 use Rattle.shelf.specs.Check.{checked, judged}
-use Rattle.edit.specs.Edits.{Edit, Set}
-use Rattle.edit.specs.Bytes.{pieces, docidIn, inRange, settled, edited}
+use Rattle.change.specs.Edits.{Edit, Set}
+use Rattle.change.specs.Bytes.{pieces, docidIn, inRange, settled, edited}
 
 module _ (e : Edit) (s : List ℕ) (room : ℕ) where
   pub edited-range : inRange e ≡ false → edited e s room ≡ refused 10 0

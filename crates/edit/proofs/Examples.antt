@@ -13,8 +13,8 @@ use Rattle.block.specs.Body.{gapped, posting, posts, bodyPosts, rightBody, late
 use Rattle.shelf.specs.Walk.{Block, Listing, headTerm, headCount, rightHead, oneSum, sums, oneBody, bodies, blocksOf, list, lists, walk}
 use Rattle.shelf.specs.Check.{checked}
 use Rattle.list.specs.Write.{packed, sumsBytes, bodiesBytes, blocksBytes, listBytes}
-use Rattle.edit.specs.Edits.{Set}
-use Rattle.edit.specs.Bytes.{changed, there, within, settled, edited}
+use Rattle.change.specs.Edits.{Set}
+use Rattle.change.specs.Bytes.{changed, there, within, settled, edited}
 use Rattle.edit.specs.History.{Try, shelfAfter}
 
 -- a set that is tried, with room for any shelf

@@ -14,11 +14,11 @@ use Rattle.model.proofs.Lists.{split}
 use Rattle.shelf.specs.Walk.{Listing}
 use Rattle.shelf.specs.Check.{checked}
 use Rattle.list.specs.Write.{Word, Words, listBytes, writing}
-use Rattle.edit.specs.Edits.{Edit, Set, Clear, Withdraw, clearPost, setWord, unlessEmpty, clearWords, only, every, applied, Termed}
-use Rattle.edit.specs.Bytes.{Piece, pieces, joined, contents, anew, setPiece, anewUnlessEmpty, clearPieces, changed, few, edited}
+use Rattle.change.specs.Edits.{Edit, Set, Clear, Withdraw, clearPost, setWord, unlessEmpty, clearWords, only, every, applied, Termed}
+use Rattle.change.specs.Bytes.{Piece, pieces, joined, contents, anew, setPiece, anewUnlessEmpty, clearPieces, changed, few, edited}
 use Rattle.edit.specs.History.{History, Try, orStay, shelfAfter, ifDone, accepted, addUp}
-use Rattle.edit.proofs.Postings.{clear-absent}
-use Rattle.edit.proofs.Pieces.{Rises, anew-stands, standing-sound}
+use Rattle.change.proofs.Postings.{clear-absent}
+use Rattle.change.proofs.Pieces.{Rises, anew-stands, standing-sound}
 use Rattle.edit.proofs.Changes.{contents-words, changed-rises, rises-words}
 use Rattle.edit.proofs.Sounds.{Passed, edited-done}
 

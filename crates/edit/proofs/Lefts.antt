@@ -25,18 +25,18 @@ use Rattle.list.specs.Write.{Writable, Words, wordsOf}
 use Rattle.list.specs.Fill.{Filled}
 use Rattle.list.proofs.Pours.{right-count}
 use Rattle.list.proofs.Shelves.{sound-words}
-use Rattle.edit.specs.Edits.{Withdraw, clearPost, every}
-use Rattle.edit.specs.Bytes.{Piece, pieceOf, pieces, joined, holds, clearPieces, changed, some, there, few, within, settled}
-use Rattle.edit.specs.Runs.{Runs, Clears}
-use Rattle.edit.specs.Seat.{packedBytes, fitting, May, Wide}
+use Rattle.change.specs.Edits.{Withdraw, clearPost, every}
+use Rattle.change.specs.Bytes.{Piece, pieceOf, pieces, joined, holds, clearPieces, changed, some, there, few, within, settled}
+use Rattle.change.specs.Runs.{Runs, Clears}
+use Rattle.change.specs.Seat.{packedBytes, fitting, May, Wide}
 use Rattle.edit.specs.Left.{postsAt, Sought, Sized, leftBytes, LeftOf, Measures}
 use Rattle.edit.specs.declared.withdraw.Left.{Left}
-use Rattle.edit.proofs.Postings.{may-fit, clear-fit, clear-length}
-use Rattle.edit.proofs.Runnings.{postings-own}
-use Rattle.edit.proofs.Pieces.{or-none, not-stopped, lists-nil, lists-inv, checked-sound, sound-lists, sound-shelved}
+use Rattle.change.proofs.Postings.{may-fit, clear-fit, clear-length}
+use Rattle.change.proofs.Runnings.{postings-own}
+use Rattle.change.proofs.Pieces.{or-none, not-stopped, lists-nil, lists-inv, checked-sound, sound-lists, sound-shelved}
 use Rattle.edit.proofs.Changes.{rises-few}
 use Rattle.edit.proofs.Splices.{settled-none, settled-as, joined-unless, few-unless, length-unless, pieces-length, few-front}
-use Rattle.edit.proofs.News.{held-taken, new-small}
+use Rattle.change.proofs.News.{held-taken, new-small}
 use Rattle.edit.proofs.Sittings.{firsts, runs-postings, runs-may}
 
 -- ---- one list

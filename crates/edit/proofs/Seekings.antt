@@ -28,8 +28,8 @@ use Rattle.shelf.specs.declared.blocks.Reading.{Reading}
 use Rattle.shelf.proofs.Readings.{start-rests, start-left}
 use Rattle.list.proofs.Pours.{right-more, right-posts}
 use Rattle.edit.specs.Left.{postsAt, Sought}
-use Rattle.edit.proofs.Postings.{rising-less}
-use Rattle.edit.proofs.Runnings.{docs-append, rising-free}
+use Rattle.change.proofs.Postings.{rising-less}
+use Rattle.change.proofs.Runnings.{docs-append, rising-free}
 
 -- ---- rising postings
 

@@ -19,15 +19,15 @@ use Rattle.list.specs.Write.{Writable}
 use Rattle.list.specs.Answer.{Gives}
 use Rattle.list.specs.declared.answer.Answer.{Answer}
 use Rattle.list.proofs.Pours.{right-count}
-use Rattle.edit.specs.Edits.{Set, Clear, setPost, clearPost}
-use Rattle.edit.specs.Bytes.{pieces, inRange, settled}
-use Rattle.edit.specs.Runs.{Runs, Clears, Inserts}
-use Rattle.edit.specs.Seat.{seatOf, heldBy, Fills, Holds, seatAt, seatNext, placed, Placeable, May, Wide}
-use Rattle.edit.specs.declared.seat.Seat.{Seat}
-use Rattle.edit.specs.declared.seat.Seat.the-variants.{Taken, Free}
-use Rattle.edit.proofs.Postings.{Fit, may-fit, one-fit, set-fit, clear-fit, clear-absent, clear-length, clear-same, clear-fewer, clear-rise}
-use Rattle.edit.proofs.Runnings.{runs-front, runs-length, rising-free, set-first}
-use Rattle.edit.proofs.Pieces.{checked-sound}
+use Rattle.change.specs.Edits.{Set, Clear, setPost, clearPost}
+use Rattle.change.specs.Bytes.{pieces, inRange, settled}
+use Rattle.change.specs.Runs.{Runs, Clears, Inserts}
+use Rattle.change.specs.Seat.{seatOf, heldBy, Fills, Holds, seatAt, seatNext, placed, Placeable, May, Wide}
+use Rattle.change.specs.declared.seat.Seat.{Seat}
+use Rattle.change.specs.declared.seat.Seat.the-variants.{Taken, Free}
+use Rattle.change.proofs.Postings.{Fit, may-fit, one-fit, set-fit, clear-fit, clear-absent, clear-length, clear-same, clear-fewer, clear-rise}
+use Rattle.change.proofs.Runnings.{runs-front, runs-length, rising-free, set-first}
+use Rattle.change.proofs.Pieces.{checked-sound}
 use Rattle.edit.proofs.Changes.{set-ranged}
 use Rattle.edit.proofs.Splices.{seat-taken, seat-free, settled-set, settled-clear}
 

@@ -19,12 +19,12 @@ use Rattle.shelf.specs.Check.{badBody, badLists, checked}
 use Rattle.shelf.specs.declared.check.BadRead.the-variants.{BadAt, NoBad}
 use Rattle.list.specs.Write.{Word, wordsOf}
 use Rattle.list.proofs.Shelves.{sound-words}
-use Rattle.edit.specs.Edits.{Edit, applied, stored, touches, leftScore, Termed}
+use Rattle.change.specs.Edits.{Edit, applied, stored, touches, leftScore, Termed}
 use Rattle.edit.specs.Leaves.{Leaves, Capped}
-use Rattle.edit.specs.Bytes.{bytesFor, repacks, Piece, pieces, joined, contents, changed, inRange, there, few, within, settled, edited}
-use Rattle.edit.proofs.Pieces.{or-none, Rises, checked-sound, sound-shelved, standing-sound}
+use Rattle.change.specs.Bytes.{bytesFor, repacks, Piece, pieces, joined, contents, changed, inRange, there, few, within, settled, edited}
+use Rattle.change.proofs.Pieces.{or-none, Rises, checked-sound, sound-shelved, standing-sound}
 use Rattle.edit.proofs.Changes.{contents-words, changed-rises, changed-contents, changed-copies}
-use Rattle.edit.proofs.Postings.{words-ordered, stored-applied}
+use Rattle.change.proofs.Postings.{words-ordered, stored-applied}
 
 -- ---- what an accepted edit passed
 

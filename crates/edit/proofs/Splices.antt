@@ -21,13 +21,13 @@ use Rattle.shelf.specs.declared.check.BadRead.the-variants.{NoBad}
 use Rattle.shelf.proofs.Walks.{list-walked}
 use Rattle.list.specs.Write.{Writable, Words, wordsOf, listBytes}
 use Rattle.list.proofs.Shelves.{sound-words}
-use Rattle.edit.specs.Edits.{Edit, Set, Clear, setPost, clearPost, only}
-use Rattle.edit.specs.Bytes.{Piece, pieceOf, pieces, joined, anew, setPiece, anewUnlessEmpty, holds, clearPieces, changed, some, there, few, within, settled}
-use Rattle.edit.specs.Seat.{seatOf, heldBy, packedBytes, spliced, fitting, placed}
-use Rattle.edit.specs.declared.seat.Seat.{Seat}
-use Rattle.edit.proofs.Postings.{set-some, clear-length}
-use Rattle.edit.specs.declared.seat.Seat.the-variants.{Taken, Free}
-use Rattle.edit.proofs.Pieces.{or-none, lists-inv, shelved, checked-sound, sound-lists, sound-shelved}
+use Rattle.change.specs.Edits.{Edit, Set, Clear, setPost, clearPost, only}
+use Rattle.change.specs.Bytes.{Piece, pieceOf, pieces, joined, anew, setPiece, anewUnlessEmpty, holds, clearPieces, changed, some, there, few, within, settled}
+use Rattle.change.specs.Seat.{seatOf, heldBy, packedBytes, spliced, fitting, placed}
+use Rattle.change.specs.declared.seat.Seat.{Seat}
+use Rattle.change.proofs.Postings.{set-some, clear-length}
+use Rattle.change.specs.declared.seat.Seat.the-variants.{Taken, Free}
+use Rattle.change.proofs.Pieces.{or-none, lists-inv, shelved, checked-sound, sound-lists, sound-shelved}
 use Rattle.edit.proofs.Changes.{rises-few}
 
 -- ---- the pieces before and after the seat of term t

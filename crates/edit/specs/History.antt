@@ -6,8 +6,8 @@ use Rattle.model.specs.Outcome.{Outcome, refused, done}
 use Rattle.shelf.specs.Walk.{Listing}
 use Rattle.shelf.specs.Check.{checked}
 use Rattle.list.specs.Write.{Word, Words, wordsOf, writing}
-use Rattle.edit.specs.Edits.{Edit, applied}
-use Rattle.edit.specs.Bytes.{edited}
+use Rattle.change.specs.Edits.{Edit, applied}
+use Rattle.change.specs.Bytes.{edited}
 
 -- an edit that is tried, with a buffer of `room` bytes
 pub record Try : Type 0 where

@@ -8,8 +8,8 @@ use Rattle.block.specs.Body.{bodyPosts}
 use Rattle.shelf.specs.Walk.{Block, Listing, readOr}
 use Rattle.shelf.specs.Check.{checked}
 use Rattle.list.specs.Write.{wordsOf}
-use Rattle.edit.specs.Edits.{Edit, applied}
-use Rattle.edit.specs.Bytes.{pieces, changed}
+use Rattle.change.specs.Edits.{Edit, applied}
+use Rattle.change.specs.Bytes.{pieces, changed}
 
 -- the result v is sound; its lists are the old ones, each with its bytes as they stood, but for those that the edit changed; and what it
 -- holds is what the old shelf held, with the edit applied

@@ -13,9 +13,9 @@ use Rattle.shelf.specs.declared.walk.Place.{Place}
 use Rattle.shelf.specs.declared.check.BadRead.the-variants.{NoBad}
 use Rattle.list.specs.Write.{Writable}
 use Rattle.list.specs.Fill.{Fillable}
-use Rattle.edit.specs.Edits.{clearPost, every}
-use Rattle.edit.specs.Bytes.{pieces, joined, holds, clearPieces, some}
-use Rattle.edit.specs.Seat.{packedBytes}
+use Rattle.change.specs.Edits.{clearPost, every}
+use Rattle.change.specs.Bytes.{pieces, joined, holds, clearPieces, some}
+use Rattle.change.specs.Seat.{packedBytes}
 use Prim.Native.Nat.{_≤_}
 use Rattle.edit.specs.declared.withdraw.Left.{Left}
 

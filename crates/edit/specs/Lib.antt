@@ -1,8 +1,4 @@
--- The three edits.
-pub mod Edits
-pub mod Bytes
+-- The three edits, and their history.
 pub mod Leaves
 pub mod History
-pub mod Runs
-pub mod Seat
 pub mod Left

@@ -7,9 +7,9 @@ ghost use Rattle.model.specs.Outcome.{done};
 ghost use Rattle.shelf.specs.Walk.{Listing};
 ghost use Rattle.shelf.specs.Check.{checked};
 ghost use Rattle.list.specs.Answer.{Gives};
-ghost use Rattle.edit.specs.Edits.{Set, Clear, Withdraw};
-ghost use Rattle.edit.specs.Bytes.{docidIn, inRange, pieces, settled, edited};
-ghost use Rattle.edit.specs.Seat.{Sounds, Wide};
+ghost use Rattle.change.specs.Edits.{Set, Clear, Withdraw};
+ghost use Rattle.change.specs.Bytes.{docidIn, inRange, pieces, settled, edited};
+ghost use Rattle.change.specs.Seat.{Sounds, Wide};
 use list::answer::Answer;
 use shelf::check::Checked;
 
@@ -34,11 +34,11 @@ fn set_in(
     requires { ⌜ (inRange (Set term docid score) ≡ true) × Sounds (now s) × Wide (now docs) (now scores) ⌝ }
     ensures { λ r. ⌜ ((ls : List Listing) → checked (now (s .entry)) ≡ done ls → Gives (settled (Set term docid score) (pieces (now (s .entry)) ls) (length (now (out .entry)))) (now (out .entry)) (now (out .exit)) r) ⌝ }
 {
-    let seat = crate::seat::find_seat(s, term);
-    let n = crate::seat::held(s, seat, docs, scores);
-    let m = crate::runs::without(docs, scores, n, docid);
-    let k = crate::runs::insert(docs, scores, m, docid, score);
-    crate::place::place(s, seat, term, &docs[0..k], &scores[0..k], out)
+    let seat = change::seat::find_seat(s, term);
+    let n = change::seat::held(s, seat, docs, scores);
+    let m = change::runs::without(docs, scores, n, docid);
+    let k = change::runs::insert(docs, scores, m, docid, score);
+    change::place::place(s, seat, term, &docs[0..k], &scores[0..k], out)
 }
 
 fn set_sound(s: &[u8], term: u32, docid: u32, score: u16, out: &mut [u8]) -> Answer
@@ -79,13 +79,13 @@ fn clear_in(
     requires { ⌜ Sounds (now s) × Wide (now docs) (now scores) ⌝ }
     ensures { λ r. ⌜ ((ls : List Listing) → checked (now (s .entry)) ≡ done ls → Gives (settled (Clear term docid) (pieces (now (s .entry)) ls) (length (now (out .entry)))) (now (out .entry)) (now (out .exit)) r) ⌝ }
 {
-    let seat = crate::seat::find_seat(s, term);
-    let n = crate::seat::held(s, seat, docs, scores);
-    let m = crate::runs::without(docs, scores, n, docid);
+    let seat = change::seat::find_seat(s, term);
+    let n = change::seat::held(s, seat, docs, scores);
+    let m = change::runs::without(docs, scores, n, docid);
     if m == n {
         return Answer::Refused(12, 0);
     }
-    crate::place::place(s, seat, term, &docs[0..m], &scores[0..m], out)
+    change::place::place(s, seat, term, &docs[0..m], &scores[0..m], out)
 }
 
 fn clear_sound(s: &[u8], term: u32, docid: u32, out: &mut [u8]) -> Answer

@@ -8,9 +8,9 @@ ghost use Rattle.model.specs.Runs.{Stored};
 ghost use Rattle.shelf.specs.Walk.{Listing};
 ghost use Rattle.shelf.specs.Check.{checked};
 ghost use Rattle.list.specs.Answer.{Gives};
-ghost use Rattle.edit.specs.Edits.{Withdraw, every};
-ghost use Rattle.edit.specs.Bytes.{pieces, joined, clearPieces, settled};
-ghost use Rattle.edit.specs.Seat.{Sounds, Wide};
+ghost use Rattle.change.specs.Edits.{Withdraw, every};
+ghost use Rattle.change.specs.Bytes.{pieces, joined, clearPieces, settled};
+ghost use Rattle.change.specs.Seat.{Sounds, Wide};
 ghost use Rattle.edit.specs.Left.{Sized, LeftOf, leftBytes, Measures};
 use list::answer::Answer;
 use shelf::walk::ListRead;
@@ -34,9 +34,9 @@ fn list_left(s: &[u8], list: Place, d: u32, docs: &mut [u32], scores: &mut [u16]
         };
     }
     let n = list::read::fill(s, list, docs, scores);
-    let m = crate::runs::without(docs, scores, n, d);
+    let m = change::runs::without(docs, scores, n, d);
     Left {
-        bytes: crate::splice::new_len(&docs[0..m], &scores[0..m]),
+        bytes: change::splice::new_len(&docs[0..m], &scores[0..m]),
         held: true,
     }
 }
@@ -57,12 +57,12 @@ fn put_left(
     if !crate::holds::holds(s, list, d) {
         let from = list.at;
         let to = list.next;
-        return crate::copy::copy(out, at, s, from, to);
+        return change::copy::copy(out, at, s, from, to);
     }
     let n = list::read::fill(s, list, docs, scores);
-    let m = crate::runs::without(docs, scores, n, d);
+    let m = change::runs::without(docs, scores, n, d);
     let term = list.term;
-    crate::splice::put_new(out, at, term, &docs[0..m], &scores[0..m])
+    change::splice::put_new(out, at, term, &docs[0..m], &scores[0..m])
 }
 
 // What is left of all lists of a sound shelf.

@@ -1,7 +1,7 @@
 // The three edits: each reads one buffer and writes another.
 ghost use lib.ListN.{length};
-ghost use Rattle.edit.specs.Edits.{Set, Clear, Withdraw};
-ghost use Rattle.edit.specs.Bytes.{edited};
+ghost use Rattle.change.specs.Edits.{Set, Clear, Withdraw};
+ghost use Rattle.change.specs.Bytes.{edited};
 ghost use Rattle.embed.specs.Report.{Fills};
 
 // Adds or replaces a posting: numbers 10, 6, 7, 8, 11, 9. Stores the offset, or the new shelf's length.

@@ -18,10 +18,10 @@ use Rattle.query.specs.declared.read.Verdict.the-variants.{Good, Bad}
 use Rattle.query.proofs.Accepted.{accepted-in-range}
 use Rattle.shelf.specs.Walk.{Listing, walk}
 use Rattle.shelf.specs.Check.{judged, paper}
-use Rattle.shelf.specs.Gather.{Finds}
+use Rattle.lookup.specs.Gather.{Finds}
 use Rattle.shelf.specs.declared.check.Checked.{Checked}
 use Rattle.shelf.specs.declared.check.Checked.the-variants.{Sound, Fault}
-use Rattle.shelf.specs.declared.gather.Found.{Found}
+use Rattle.lookup.specs.declared.gather.Found.{Found}
 use Rattle.rank.specs.Rank.{Hit}
 use Rattle.rank.specs.Match.{anyList}
 use Rattle.prune.specs.Cut as prune

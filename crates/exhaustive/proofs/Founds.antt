@@ -16,8 +16,8 @@ use Rattle.block.specs.Summary.{isSum, sumOf, rightSum}
 use Rattle.shelf.specs.Walk as shelf
 use Rattle.shelf.specs.Walk.{oneSum, sums, bodies, blocksOf, blocksAt, headCount, rightHead, listed, list, onto, lists, walk}
 use Rattle.shelf.specs.Blocks.{blocksLeft, Rests}
-use Rattle.shelf.specs.Gather.{noList, termList, placeAt, termBlocks}
-use Rattle.shelf.proofs.Stands.{walk-size, term-blocks, term-ready}
+use Rattle.lookup.specs.Gather.{noList, termList, placeAt, termBlocks}
+use Rattle.lookup.proofs.Stands.{walk-size, term-blocks, term-ready}
 use Rattle.query.specs.Query.{Asked, termsOf as askedTerms, weightsOf}
 use Rattle.rank.specs.Match.{some, anyList, holds, scoreOf, heldFrom, matches, hitAt, hitsOf}
 use Rattle.rank.specs.Rank.{Hit}

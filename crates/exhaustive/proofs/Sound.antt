@@ -12,7 +12,7 @@ use Rattle.block.specs.Body.{rightBody}
 use Rattle.block.proofs.Contents.{right-run}
 use Rattle.shelf.specs.Walk as shelf
 use Rattle.shelf.specs.Check.{badBody, orElse, badLists, verdict, checked}
-use Rattle.shelf.specs.Gather.{termBlocks}
+use Rattle.lookup.specs.Gather.{termBlocks}
 use Rattle.shelf.specs.declared.check.BadRead.{BadRead}
 use Rattle.shelf.specs.declared.check.BadRead.the-variants.{BadAt, NoBad}
 use Rattle.query.specs.Query.{Asked, Question, asked}

@@ -5,7 +5,7 @@ use Rattle.model.specs.Outcome.{Outcome, refused, done}
 use Rattle.model.specs.Post.{Post}
 use Rattle.block.specs.Body.{rightBody, bodyRun}
 use Rattle.shelf.specs.Walk as shelf
-use Rattle.shelf.specs.Gather.{termBlocks}
+use Rattle.lookup.specs.Gather.{termBlocks}
 use Rattle.query.specs.Query.{Asked}
 use Rattle.prune.specs.Cut.{Block, Listing}
 

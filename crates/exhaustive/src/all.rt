@@ -64,7 +64,7 @@ pub fn rank_all(query: &[u8], shelf: &[u8], rows: usize) -> Ranked
         Asking::Good => {
             let terms = q.terms;
             let weights = q.weights;
-            let found = shelf::gather::find_terms(shelf, terms, q.n);
+            let found = lookup::gather::find_terms(shelf, terms, q.n);
             let ats = found.ats;
             let counts = found.counts;
             let walked = found.verdict;

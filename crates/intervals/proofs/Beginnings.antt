@@ -12,7 +12,7 @@ use Rattle.model.proofs.Lists.{split}
 use Rattle.scan.specs.Heads.{blank}
 use Rattle.scan.specs.Load.{headOf}
 use Rattle.scan.specs.declared.head.Head.{Head}
-use Rattle.intervals.specs.Table.{fromOf}
+use Rattle.opening.specs.Table.{fromOf}
 use Rattle.intervals.specs.Run.{Begins, Idles}
 
 pub from-next : (ends : List ℕ) (t : ℕ) → (t ≡ 0 → ⊥) → getD ends (t - 1) 0 ≡ fromOf ends t

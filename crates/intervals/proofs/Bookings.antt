@@ -16,7 +16,7 @@ use Rattle.model.proofs.Storing.{holds-take}
 use Rattle.prune.specs.Cut.{Block, Listing, Rises, ceilingAt, cuts, addCuts, starts}
 use Rattle.prune.specs.Gather.{Fine, flatEdges}
 use Rattle.prune.proofs.Cuts.{cuts-asc}
-use Rattle.intervals.specs.Table.{numbered, fromOf, listsIn, blockIn, sumBlock, Ends}
+use Rattle.opening.specs.Table.{numbered, fromOf, listsIn, blockIn, sumBlock, Ends}
 use Rattle.intervals.specs.Book.{ceilingsIn, Raisable}
 use Rattle.intervals.specs.Run.{Runnable, Runs}
 use Rattle.intervals.specs.Blocks.{Walked, roomFor, Books}

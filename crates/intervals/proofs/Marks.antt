@@ -1,27 +1,18 @@
 -- Marks written one by one. Assumes nothing.
 use Prim.Native.Nat.{ℕ, zero, suc, _+_, _-_, _≤_, _<_}
-use mathlib.Core.Path.{_≡_, refl, ap, subst⁻¹, _∙_}
+use mathlib.Core.Path.{_≡_, refl, ap, _∙_}
 use mathlib.Core.Bool.{true, false}
 use mathlib.Core.List.{List, [], _∷_, _++_}
 use native.Mathlib.Omega.{arith}
 use lib.ListN.{length, getD, set, replicate, length-replicate, length-set}
 use lib.Seq.{sets}
-use lib.Dec.{eqb}
-use borrow.Author.Tests.{eqb-true, eqb-false}
-use Rattle.model.proofs.Lists.{split}
+use Rattle.model.proofs.Lists.{up-to-next}
 use Rattle.model.proofs.Storing.{sets-append}
 use Rattle.intervals.specs.Book.{opensBy, Skips}
 
 replicate-more : (n v : ℕ) → replicate (suc n) v ≡ replicate n v ++ (v ∷ [])
 replicate-more zero v = refl
 replicate-more (suc n) v = ap {B = List ℕ} (λ t. v ∷ t) (replicate-more n v)
-
--- what holds of each number passed, and of the next
-pub up-to-next : (P : ℕ → Type 0) (from i : ℕ) → ((j : ℕ) → from ≤ j → j < i → P j) → P i → (j : ℕ) → from ≤ j → j < i + 1 → P j
-up-to-next P from i h p j a b =
-    split (eqb j i)
-    (λ e. let q : j ≡ i = eqb-true j i e in subst⁻¹ P q p)
-    (λ e. let w : (j ≡ i → ⊥) = eqb-false j i e in h j a (omega arith))
 
 -- ---- marks from one place up to another
 

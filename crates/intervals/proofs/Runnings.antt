@@ -29,17 +29,17 @@ use Rattle.scan.specs.Heads.{roomy}
 use Rattle.scan.specs.Load.{headOf}
 use Rattle.scan.specs.declared.head.Head.{Head}
 use Rattle.scan.proofs.Loadings.{stood}
-use Rattle.intervals.specs.Table.{gap, numbered, fromOf, listIn, listsIn, blockIn}
-use Rattle.intervals.specs.Meet.{Placed, AllMoved}
+use Rattle.opening.specs.Table.{gap, numbered, fromOf, listIn, listsIn, blockIn}
+use Rattle.opening.specs.Meet.{Placed, AllMoved}
 use Rattle.intervals.specs.Book.{opensBy, Skips}
-use Rattle.intervals.specs.Enter.{AllStand, under, faultFrom, newFrom, Enterable}
-use Rattle.intervals.specs.Turn.{termMet, Openable, Opens}
+use Rattle.opening.specs.Enter.{AllStand, under, faultFrom, newFrom, Enterable}
+use Rattle.opening.specs.Turn.{termMet, Openable, Opens}
 use Rattle.intervals.specs.Run.{lastAt, Runnable, Runs, Begins, Idles}
-use Rattle.intervals.specs.declared.turn.Turn.{Turn}
-use Rattle.intervals.proofs.Numbers.{numbered-length}
-use Rattle.intervals.proofs.Meets.{met-low, met-reached}
-use Rattle.intervals.proofs.Standings.{stood-stands, is-few}
-use Rattle.intervals.proofs.Turns.{all-stand-on}
+use Rattle.opening.specs.declared.turn.Turn.{Turn}
+use Rattle.opening.proofs.Numbers.{numbered-length}
+use Rattle.opening.proofs.Meets.{met-low, met-reached}
+use Rattle.opening.proofs.Standings.{stood-stands, is-few}
+use Rattle.opening.proofs.Turns.{all-stand-on}
 use Rattle.intervals.proofs.Spans.{metOf, intervalAt, noSpan, spans-long, span-at, opens-by, searching-pass, chosen-set, chosen-pass, terms-met, fault-met, count-phantom, count-more, count-nothing, asc-up, asc-step, drop-marked, fault-gaps, getD-in}
 
 meets-last : (los : List ℕ) (d : ℕ) (b : Block) → meets b d ≡ true → metBy (los ++ (d ∷ [])) b ≡ true

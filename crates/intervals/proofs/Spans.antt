@@ -20,12 +20,12 @@ use Rattle.prune.specs.Search.{Span, opens}
 use Rattle.prune.specs.Prune.{never, spanOf, spans, bodyAt, termsAt, faultAt, faultOf, earlier, chosen, metBy, countIn, countMet}
 use Rattle.prune.specs.Loop.{Searching}
 use Rattle.prune.proofs.Loopings.{searching-skip, count-snoc, opensOne}
-use Rattle.intervals.specs.Table.{gap, numbered, fromOf, listIn}
+use Rattle.opening.specs.Table.{gap, numbered, fromOf, listIn}
 use Rattle.intervals.specs.Book.{opensBy}
-use Rattle.intervals.specs.Enter.{bodyOf, isNew, faultFrom, newFrom}
-use Rattle.intervals.specs.Turn.{termMet}
+use Rattle.opening.specs.Enter.{bodyOf, isNew, faultFrom, newFrom}
+use Rattle.opening.specs.Turn.{termMet}
 use Rattle.intervals.specs.Run.{lastAt}
-use Rattle.intervals.proofs.Meets.{met, met-body, met-new}
+use Rattle.opening.proofs.Meets.{met, met-body, met-new}
 
 ltb-suc : (a b : ℕ) → ltb (suc a) (suc b) ≡ ltb a b
 ltb-suc a b = split (ltb a b) (λ e. lt-ltb (suc a) (suc b) (omega (arith, ltb-true a b e)) ∙ sym e) (λ e. le-ltb (suc a) (suc b) (omega (arith, ltb-false a b e)) ∙ sym e)

@@ -15,9 +15,9 @@ use Rattle.prune.specs.Gather.{part, flatEdges, Fine, blocksOf, Summaries, rais
 use Rattle.prune.proofs.Books.{raise-list}
 use Rattle.prune.proofs.Listings.{leasts, greatests, blocks-of}
 use Rattle.prune.proofs.Wholes.{Spells, flat-cuts}
-use Rattle.intervals.specs.Table.{numbered, fromOf, listIn, listsIn, sumBlock, Ends}
+use Rattle.opening.specs.Table.{numbered, fromOf, listIn, listsIn, sumBlock, Ends}
 use Rattle.intervals.specs.Book.{ceilingsIn, Raisable}
-use Rattle.intervals.proofs.Numbers.{numbered-snoc, numbered-all}
+use Rattle.opening.proofs.Numbers.{numbered-snoc, numbered-all}
 
 -- a run's part holds what the blocks have there
 pub part-is : (g : Block → ℕ) (B : ℕ → Block) (xs : List ℕ) → ((i : ℕ) → g (B i) ≡ getD xs i 0) → (n f : ℕ) → f + n ≤ length xs → take n (drop f xs) ≡ map g (numbered B n f)

@@ -7,8 +7,8 @@ use lib.Dec.{leb}
 use lib.ListN.{length, getD, drop}
 use Rattle.model.specs.Limits.{maxDocid, maxTerms, maxK}
 use Rattle.prune.specs.Cut.{ceilingAt, starts}
-use Rattle.intervals.specs.Table.{gap, blockIn, listsIn, Ends}
-use Rattle.intervals.specs.Enter.{Loadable}
+use Rattle.opening.specs.Table.{gap, blockIn, listsIn, Ends}
+use Rattle.opening.specs.Enter.{Loadable}
 use Rattle.intervals.specs.Run.{Runs}
 use Rattle.intervals.specs.declared.blocks.Booked.{Booked}
 

@@ -10,7 +10,7 @@ use Rattle.model.specs.Limits.{maxTerms}
 use Rattle.model.specs.Runs.{Asc}
 use Rattle.rank.specs.Rank.{beats}
 use Rattle.prune.specs.Cut.{ceilingAt}
-use Rattle.intervals.specs.Table.{listsIn, sumBlock, Ends}
+use Rattle.opening.specs.Table.{listsIn, sumBlock, Ends}
 
 -- the ceilings of the intervals that begin at `starts`
 abbrev pub ceilingsIn : (los his tops ends weights starts : List ℕ) → List ℕ

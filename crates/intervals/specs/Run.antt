@@ -16,8 +16,8 @@ use Rattle.prune.specs.Prune.{never, pruned, book, blocksOpened}
 use Rattle.scan.specs.Heads.{blank}
 use Rattle.scan.specs.Load.{headOf}
 use Rattle.scan.specs.declared.head.Head.{Head}
-use Rattle.intervals.specs.Table.{gap, fromOf, blockIn, listsIn, Ends}
-use Rattle.intervals.specs.Enter.{Loadable}
+use Rattle.opening.specs.Table.{gap, fromOf, blockIn, listsIn, Ends}
+use Rattle.opening.specs.Enter.{Loadable}
 use Rattle.intervals.specs.declared.run.Run.{Run}
 
 -- the last docid of an interval: the one before the next interval's first

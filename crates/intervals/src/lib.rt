@@ -1,7 +1,4 @@
 // The search over gathered blocks, interval by interval.
 pub mod blocks;
 pub mod book;
-pub mod enter;
-pub mod meet;
 pub mod run;
-pub mod turn;

@@ -6,7 +6,7 @@ ghost use lib.ListN.{length, getD};
 ghost use Rattle.model.specs.Limits.{maxDocid};
 ghost use Rattle.rank.specs.Rank.{kth};
 ghost use Rattle.rank.specs.Keep.{keptOf};
-ghost use Rattle.intervals.specs.Table.{fromOf};
+ghost use Rattle.opening.specs.Table.{fromOf};
 ghost use Rattle.intervals.specs.Run.{lastAt, Begins, Idles, Runnable, Runs};
 use rank::keep::Kept;
 use scan::head::Head;
@@ -47,11 +47,11 @@ fn idle(weights: &[u8]) -> [Head; 8]
     requires { ⌜ length (now weights) ≡ 8 ⌝ }
     ensures { λ r. ⌜ Idles (now (weights .entry)) r 8 ⌝ }
 {
-    let none = crate::enter::ended(0, 0);
+    let none = opening::enter::ended(0, 0);
     let mut heads = [none; 8];
     let mut t: usize = 0;
     while t < 8 {
-        let h = crate::enter::ended(weights[t], t);
+        let h = opening::enter::ended(weights[t], t);
         heads[t] = h;
         t += 1;
     }
@@ -103,7 +103,7 @@ pub fn over_intervals(
     let mut scores = [0u16; 800];
     let mut ats = [0usize; 8];
     begin(ends, &mut ats);
-    let mut mets = [crate::meet::GAP; 8];
+    let mut mets = [opening::meet::GAP; 8];
     let mut heads = idle(weights);
     let mut kept = Kept::new();
     let mut opened: usize = 0;
@@ -112,8 +112,8 @@ pub fn over_intervals(
         let first = starts[i];
         let last = last_of(starts, i);
         let was = mets;
-        crate::meet::meet_all(ends, los, his, first, &mut ats, &mut mets);
-        let turn = crate::turn::open(
+        opening::meet::meet_all(ends, los, his, first, &mut ats, &mut mets);
+        let turn = opening::turn::open(
             shelf,
             los,
             his,

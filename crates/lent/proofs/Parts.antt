@@ -9,11 +9,11 @@ use Rattle.model.proofs.Lists.{split}
 use Rattle.wire.specs.Field.{whole}
 use Rattle.wire.proofs.Fields.{whole-size}
 use Rattle.shelf.specs.Walk.{Block, Listing, bodies}
-use Rattle.shelf.specs.Find.{found, shownOf}
-use Rattle.shelf.specs.Show.{bodiesFrom, hasBlock, partAt, partPast, bodyShown, blockOf}
-use Rattle.shelf.specs.declared.find.Shown.{Shown}
-use Rattle.shelf.specs.declared.find.Shown.the-variants as shown
-use Rattle.shelf.proofs.Showings.{shown-body, shown-bytes}
+use Rattle.lookup.specs.Find.{found, shownOf}
+use Rattle.lookup.specs.Show.{bodiesFrom, hasBlock, partAt, partPast, bodyShown, blockOf}
+use Rattle.lookup.specs.declared.find.Shown.{Shown}
+use Rattle.lookup.specs.declared.find.Shown.the-variants as shown
+use Rattle.lookup.proofs.Showings.{shown-body, shown-bytes}
 use Rattle.lent.specs.View.{Inside, bytesOf}
 
 part-inside : (s : List ℕ) (b : ℕ) → Inside s (partAt s b)

@@ -37,9 +37,9 @@ use denote.Triple.Statement.{Contract}
 use denote.Triple.Spec.{tripleOf}
 use denote.Exit.{yes}
 use denote.Triple.Clauses.{Ended, Clauses, closing, ensured, lasts}
-use Rattle.shelf.specs.declared.find.Shown.{Shown}
-use Rattle.shelf.proofs.find.Shown as P
-use Rattle.shelf.proofs.find.Shown.Laws as P′
+use Rattle.lookup.specs.declared.find.Shown.{Shown}
+use Rattle.lookup.proofs.find.Shown as P
+use Rattle.lookup.proofs.find.Shown.Laws as P′
 use Rattle.lent.specs.declared.view.ListView.{ListView}
 use Rattle.lent.proofs.view.ListView as T
 use Rattle.lent.proofs.view.ListView.Laws as T′

@@ -4,8 +4,8 @@ use mathlib.Core.Path.{_≡_}
 use mathlib.Core.List.{List, []}
 use lib.ListN.{length, take, drop}
 use denote.Ref.{RefT}
-use Rattle.shelf.specs.declared.find.BodyShown.{BodyShown}
-use Rattle.shelf.specs.declared.find.BodyShown.the-variants.{Part, NoBody}
+use Rattle.lookup.specs.declared.find.BodyShown.{BodyShown}
+use Rattle.lookup.specs.declared.find.BodyShown.the-variants.{Part, NoBody}
 
 -- a body that is shown ends within the shelf
 abbrev pub Inside : List ℕ → BodyShown → Type 0

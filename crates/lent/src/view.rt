@@ -1,12 +1,12 @@
 // A list as it stands in the lent shelf: the numbers of its summaries, and its bodies as parts of the shelf's own slice. Each function takes the
 // view apart and calls one that knows only slices and plain values.
 ghost use mathlib.Core.Path.{_≡_};
-ghost use Rattle.shelf.specs.Find.{shownOf, found};
-ghost use Rattle.shelf.specs.Show.{summaryShown, bodyShown};
+ghost use Rattle.lookup.specs.Find.{shownOf, found};
+ghost use Rattle.lookup.specs.Show.{summaryShown, bodyShown};
 ghost use Rattle.lent.specs.View.{Inside, IsPart};
-use shelf::find::BodyShown;
-use shelf::find::Shown;
-use shelf::find::SummaryShown;
+use lookup::find::BodyShown;
+use lookup::find::Shown;
+use lookup::find::SummaryShown;
 
 // The shelf itself, and the list's place in it or the refusal.
 pub struct ListView<'a> {
@@ -18,7 +18,7 @@ pub struct ListView<'a> {
 pub fn view<'a>(shelf: &'a [u8], term: u32) -> ListView<'a>
     ensures { λ r. ⌜ (r .shelf ≡ shelf .entry) × (r .place ≡ shownOf (found term (now (shelf .entry)))) ⌝ }
 {
-    let place = shelf::find::find_list(shelf, term);
+    let place = lookup::find::find_list(shelf, term);
     ListView { shelf, place }
 }
 
@@ -27,7 +27,7 @@ pub fn summary<'a>(v: ListView<'a>, j: usize) -> SummaryShown
     ensures { λ r. ⌜ r ≡ summaryShown (now (v .entry .shelf)) (v .entry .place) j ⌝ }
 {
     let place = v.place;
-    shelf::find::summary_shown(v.shelf, place, j)
+    lookup::find::summary_shown(v.shelf, place, j)
 }
 
 // A body as a part of the shelf, and where it stands there; or an empty part with the refusal. (An enum holds no slice, so they stand side by side.)
@@ -53,7 +53,7 @@ pub fn body<'a>(v: ListView<'a>, j: usize) -> BodyPart<'a>
         × IsPart (v .entry .shelf) (r .shown) (r .bytes) ⌝ }
 {
     let place = v.place;
-    let shown = shelf::find::body_shown(v.shelf, place, j);
+    let shown = lookup::find::body_shown(v.shelf, place, j);
     let bytes = part(v.shelf, shown);
     BodyPart { bytes, shown }
 }

@@ -13,9 +13,9 @@ use Rattle.model.proofs.Storing.{stored-holds}
 use Rattle.shelf.specs.Walk.{Block, Listing, blocksAt, postsOf}
 use Rattle.shelf.specs.Check.{badBody}
 use Rattle.shelf.specs.Answers.{Ready}
-use Rattle.shelf.specs.Find.{found, shownOf}
-use Rattle.shelf.specs.declared.find.Shown.the-variants as shown
-use Rattle.shelf.proofs.Stands.{found-stands}
+use Rattle.lookup.specs.Find.{found, shownOf}
+use Rattle.lookup.specs.declared.find.Shown.the-variants as shown
+use Rattle.lookup.proofs.Stands.{found-stands}
 use Rattle.shelf.specs.declared.walk.Place.{Place}
 use Rattle.shelf.specs.declared.check.BadRead.the-variants.{BadAt, NoBad}
 use Rattle.list.specs.Answer.{Gives}

@@ -14,7 +14,7 @@ use Rattle.model.proofs.Lists.{split}
 use Rattle.model.proofs.Posts.{count-of}
 use Rattle.shelf.specs.Walk.{Listing, walk}
 use Rattle.shelf.specs.Check.{badBody, orElse, badLists, verdict, checked}
-use Rattle.shelf.specs.Find.{findOf, found}
+use Rattle.lookup.specs.Find.{findOf, found}
 use Rattle.shelf.specs.declared.check.BadRead.{BadRead}
 use Rattle.shelf.specs.declared.check.BadRead.the-variants.{BadAt, NoBad}
 use Rattle.list.specs.Read.{inRoom, readBlocks, readList}

@@ -9,7 +9,7 @@ use Rattle.model.specs.Post.{Post, docs, scores}
 use Rattle.list.specs.Answer.{Gives}
 use Rattle.list.specs.declared.answer.Answer.{Answer}
 use Rattle.shelf.specs.Walk.{Block, postsOf}
-use Rattle.shelf.specs.Find.{found}
+use Rattle.lookup.specs.Find.{found}
 use Rattle.shelf.specs.Check.{badBody}
 use Rattle.shelf.specs.declared.check.BadRead.{BadRead}
 use Rattle.shelf.specs.declared.check.BadRead.the-variants.{BadAt, NoBad}

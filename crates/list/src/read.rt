@@ -7,10 +7,10 @@ ghost use Rattle.shelf.specs.Answers.{Ready};
 ghost use Rattle.list.specs.Read.{countOf, readBlocks, readList, Reads};
 ghost use Rattle.list.specs.Fill.{Fillable, Filled};
 use crate::answer::Answer;
+use lookup::find::Shown;
 use shelf::blocks::BlockStep;
 use shelf::blocks::Reading;
 use shelf::check::BadRead;
-use shelf::find::Shown;
 use shelf::walk::Place;
 
 // How many postings a list's summaries say it has.
@@ -78,7 +78,7 @@ fn read_place(s: &[u8], list: Place, docids: &mut [u32], scores: &mut [u16]) -> 
 pub fn read_list(s: &[u8], term: u32, docids: &mut [u32], scores: &mut [u16]) -> Answer
     ensures { λ r. ⌜ Reads (readList term (now (s .entry)) (length (now (docids .entry))) (length (now (scores .entry)))) (now (docids .entry)) (now (scores .entry)) (now (docids .exit)) (now (scores .exit)) r ⌝ }
 {
-    match shelf::find::find_list(s, term) {
+    match lookup::find::find_list(s, term) {
         Shown::List(list) => read_place(s, list, docids, scores),
         Shown::Refused(n, o) => Answer::Refused(n, o),
     }

@@ -1,12 +1,14 @@
 -- Facts on tests and on lists. Assumes nothing.
 use Prim.Native.Nat.{ℕ, zero, suc, _+_, _≤_, _<_}
-use mathlib.Core.Path.{_≡_, refl, sym, ap, _∙_}
+use mathlib.Core.Path.{_≡_, refl, sym, ap, subst⁻¹, _∙_}
 use mathlib.Core.Bool.{Bool, true, false, false≢true, _||_, _&&_}
 use mathlib.Core.List.{List, [], _∷_, _++_, map}
 use native.Mathlib.Omega.{arith}
 use native.Mathlib.Numerals.{add-one}
 use lib.ListN.{length, take, drop, getD, set, drop-of-length-le}
+use lib.Dec.{eqb}
 use lib.Seq.{drop-cons, getD-drop}
+use borrow.Author.Tests.{eqb-true, eqb-false}
 use Rattle.model.specs.Runs.{All}
 
 -- A test's two cases, each with its equation
@@ -62,7 +64,18 @@ pub or-comm : (a b : Bool) → (a || b) ≡ (b || a)
 or-comm true b = sym (or-true b)
 or-comm false b = sym (or-false b)
 
+-- functions that agree everywhere have the same images
+pub map-same : {A B : Type 0} (f g : A → B) (xs : List A) → ((x : A) → f x ≡ g x) → map f xs ≡ map g xs
+map-same f g [] h = refl
+map-same f g (x ∷ xs) h = cc (h x, map-same f g xs h)
+
 module _ {A : Type 0} where
+  -- what holds of each element holds of the one at a place
+  pub All-at : (P : A → Type 0) (xs : List A) (none : A) (i : ℕ) → All P xs → i < length xs → P (getD xs i none)
+  All-at P [] none i all l = absurd (omega arith)
+  All-at P (x ∷ xs) none zero all l = all .0
+  All-at P (x ∷ xs) none (suc i) all l = All-at P xs none i (all .1) (omega arith)
+
   pub All-map : {P Q : A → Type 0} (xs : List A) → ((x : A) → P x → Q x) → All P xs → All Q xs
   All-map [] f all = tt
   All-map (x ∷ xs) f all = (f x (all .0), All-map xs f (all .1))
@@ -102,6 +115,13 @@ module _ {A : Type 0} where
   getD-bound f m i [] all = omega arith
   getD-bound f m zero (x ∷ xs) all = all .0
   getD-bound f m (suc i) (x ∷ xs) all = getD-bound f m i xs (all .1)
+
+-- what holds of each number passed, and of the next
+pub up-to-next : (P : ℕ → Type 0) (from i : ℕ) → ((j : ℕ) → from ≤ j → j < i → P j) → P i → (j : ℕ) → from ≤ j → j < i + 1 → P j
+up-to-next P from i h p j a b =
+    split (eqb j i)
+    (λ e. let q : j ≡ i = eqb-true j i e in subst⁻¹ P q p)
+    (λ e. let w : (j ≡ i → ⊥) = eqb-false j i e in h j a (omega arith))
 
 -- what holds of each image
 pub All-image : {A B : Type 0} (f : A → B) (P : B → Type 0) (xs : List A) → All (λ x. P (f x)) xs → All P (map f xs)

@@ -10,7 +10,7 @@ use Rattle.list.specs.Answer.{after}
 use Rattle.list.specs.Read.{docidsOf, scoresOf, readList}
 use Rattle.list.specs.Write.{writeList}
 use Rattle.list.proofs.ReadsBack.{written-reads-back}
-use Rattle.edit.specs.Bytes.{edited}
+use Rattle.change.specs.Bytes.{edited}
 use Rattle.rank.specs.Rank.{Hit}
 use Rattle.rank.specs.Match.{Term, scoreOf, anyList, matches, hitAt}
 use Rattle.rank.proofs.Matches.{any-matches}

@@ -13,11 +13,11 @@ use Rattle.model.specs.Post.{Post}
 use Rattle.model.proofs.Lists.{split, Bytes}
 use Rattle.shelf.specs.Walk.{Listing, postsOf}
 use Rattle.shelf.specs.Check.{checked}
-use Rattle.shelf.specs.Gather.{termList, termBlocks}
+use Rattle.lookup.specs.Gather.{termList, termBlocks}
 use Rattle.list.specs.Write.{Word, wordsOf}
-use Rattle.edit.specs.Edits.{Edit, Set, Clear, Withdraw, setWord, unlessEmpty, clearWords, clearPost, only, every, applied, stored}
+use Rattle.change.specs.Edits.{Edit, Set, Clear, Withdraw, setWord, unlessEmpty, clearWords, clearPost, only, every, applied, stored}
 use Rattle.edit.specs.History.{Try, shelfAfter, accepted, addUp, History}
-use Rattle.edit.proofs.Postings.{Ordered, stored-applied}
+use Rattle.change.proofs.Postings.{Ordered, stored-applied}
 use Rattle.edit.proofs.Sounds.{edit-sound, edit-holds, others-copied, ceiling-holds}
 use Rattle.edit.proofs.Histories.{history}
 use Rattle.query.specs.Query.{Asked, Question, asked}

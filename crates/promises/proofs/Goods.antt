@@ -18,11 +18,11 @@ use Rattle.block.proofs.Contents.{run-all, right-run, right-body}
 use Rattle.shelf.specs.Walk as shelf
 use Rattle.shelf.specs.Walk.{blocksAt}
 use Rattle.shelf.specs.Blocks.{readingOf, blocksLeft}
-use Rattle.shelf.specs.Gather.{termList, termBlocks}
+use Rattle.lookup.specs.Gather.{termList, termBlocks}
 use Rattle.shelf.proofs.Sounds as sounds
 use Rattle.shelf.proofs.Sounds.{sound-good}
-use Rattle.shelf.proofs.Stands.{Standing, walk-stands}
-use Rattle.shelf.proofs.Tables.{blocks-length}
+use Rattle.lookup.proofs.Stands.{Standing, walk-stands}
+use Rattle.lookup.proofs.Tables.{blocks-length}
 use Rattle.query.specs.Query.{Asked, Question}
 use Rattle.query.proofs.Accepted.{accepted-in-range}
 use Rattle.rank.proofs.Withins.{rising-above}

@@ -9,7 +9,7 @@ use Rattle.block.specs.Body.{gapped, posting, posts, bodyPosts, rightBody, read
 use Rattle.shelf.specs.Walk.{headTerm, headCount, rightHead, oneSum, sums, oneBody, bodies, blocksOf, list, lists, walk}
 use Rattle.shelf.specs.Check.{checked}
 use Rattle.list.specs.Write.{packed, sumsBytes, bodiesBytes, blocksBytes, listBytes}
-use Rattle.edit.specs.Bytes.{changed, there, within, settled, edited}
+use Rattle.change.specs.Bytes.{changed, there, within, settled, edited}
 use Rattle.query.specs.Query.{isField, termsIn, termCount, fieldCount, judge, asked}
 use Rattle.rank.specs.Rank.{ahead, beats}
 use Rattle.prune.specs.Search.{opens}

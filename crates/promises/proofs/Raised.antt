@@ -14,9 +14,9 @@ use Rattle.model.specs.Post.{Post, docs}
 use Rattle.model.specs.Runs.{has}
 use Rattle.model.proofs.Lists.{split, both-ways}
 use Rattle.shelf.specs.Walk.{Listing, postsOf}
-use Rattle.shelf.specs.Gather.{termBlocks}
+use Rattle.lookup.specs.Gather.{termBlocks}
 use Rattle.list.specs.Write.{Word, wordsOf}
-use Rattle.edit.specs.Edits.{Set, scoreIn, stored as storedIn}
+use Rattle.change.specs.Edits.{Set, scoreIn, stored as storedIn}
 use Rattle.edit.proofs.Changes.{set-ranged}
 use Rattle.edit.proofs.Sounds.{edited-done}
 use Rattle.query.specs.Query.{Asked, Question}

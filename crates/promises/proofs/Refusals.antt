@@ -16,17 +16,17 @@ use Rattle.model.specs.Runs.{All}
 use Rattle.model.proofs.Lists.{split, both-ways}
 use Rattle.shelf.specs.Walk.{Block, Listing, postsOf, walk}
 use Rattle.shelf.specs.Check.{badBody, badLists, verdict, checked, judged}
-use Rattle.shelf.specs.Find.{findOf, found, shownOf}
-use Rattle.shelf.specs.Show.{blockOf, summaryShown, bodyShown, summaryOfBlock, partOfBlock}
-use Rattle.shelf.proofs.Shows.{summary-refused, body-refused}
-use Rattle.shelf.proofs.Showings.{shown-summary, shown-body}
-use Rattle.shelf.specs.Gather.{termList, termBlocks}
+use Rattle.lookup.specs.Find.{findOf, found, shownOf}
+use Rattle.lookup.specs.Show.{blockOf, summaryShown, bodyShown, summaryOfBlock, partOfBlock}
+use Rattle.lookup.proofs.Shows.{summary-refused, body-refused}
+use Rattle.lookup.proofs.Showings.{shown-summary, shown-body}
+use Rattle.lookup.specs.Gather.{termList, termBlocks}
 use Rattle.shelf.specs.declared.check.BadRead.{BadRead}
 use Rattle.shelf.specs.declared.check.BadRead.the-variants.{BadAt, NoBad}
 use Rattle.list.specs.Write.{faultAt, listBytes, writeList}
 use Rattle.list.specs.Read.{heldBy, inRoom, readBlocks, readList}
-use Rattle.edit.specs.Edits.{Edit}
-use Rattle.edit.specs.Bytes.{Piece, pieces, joined, changed, inRange, there, within, settled, edited}
+use Rattle.change.specs.Edits.{Edit}
+use Rattle.change.specs.Bytes.{Piece, pieces, joined, changed, inRange, there, within, settled, edited}
 use Rattle.query.specs.Query.{Question, question, termsIn, unless, fieldCount, allRight, weighted, unrepeated, judge, asked}
 use Rattle.query.specs.declared.fields.FieldsRead.{FieldsRead}
 use Rattle.query.specs.declared.fields.FieldsRead.the-variants.{Terms, Wrong}

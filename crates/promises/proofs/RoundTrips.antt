@@ -13,13 +13,13 @@ use Rattle.model.specs.Runs.{All}
 use Rattle.model.proofs.Lists.{split, Bytes, bytes-drop}
 use Rattle.shelf.specs.Walk.{Block, Listing, postsOf, list, lists}
 use Rattle.shelf.specs.Check.{badBody, badLists, checked}
-use Rattle.shelf.specs.Find.{findOf, found}
+use Rattle.lookup.specs.Find.{findOf, found}
 use Rattle.shelf.specs.declared.check.BadRead.the-variants.{NoBad}
 use Rattle.shelf.proofs.Walks.{list-walked}
 use Rattle.list.specs.Read.{readBlocks, readList}
 use Rattle.list.specs.Write.{Full, writeList}
 use Rattle.list.proofs.WritesBack.{written-back}
-use Rattle.edit.proofs.Pieces.{or-none, lists-inv, checked-sound}
+use Rattle.change.proofs.Pieces.{or-none, lists-inv, checked-sound}
 use Rattle.exhaustive.proofs.Sound.{sound-walk}
 use Rattle.promises.specs.Served.{bytesOf}
 

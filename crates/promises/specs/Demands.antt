@@ -12,13 +12,13 @@ use Rattle.model.specs.Runs.{All, has}
 use Rattle.model.proofs.Lists.{Bytes}
 use Rattle.shelf.specs.Walk.{Listing}
 use Rattle.shelf.specs.Check.{checked, judged}
-use Rattle.shelf.specs.Find.{findOf, found, shownOf}
-use Rattle.shelf.specs.Show.{summaryShown, bodyShown, summaryOfBlock, partOfBlock}
+use Rattle.lookup.specs.Find.{findOf, found, shownOf}
+use Rattle.lookup.specs.Show.{summaryShown, bodyShown, summaryOfBlock, partOfBlock}
 use Rattle.list.specs.Answer.{after}
 use Rattle.list.specs.Read.{readList, docidsOf, scoresOf}
 use Rattle.list.specs.Write.{Full, writeList}
-use Rattle.edit.specs.Edits.{Edit, Set, stored}
-use Rattle.edit.specs.Bytes.{edited}
+use Rattle.change.specs.Edits.{Edit, Set, stored}
+use Rattle.change.specs.Bytes.{edited}
 use Rattle.edit.specs.History.{Try, shelfAfter, accepted, addUp, History}
 use Rattle.query.specs.Query.{Asked, Question, asked}
 use Rattle.rank.specs.Rank.{Hit, ranking}

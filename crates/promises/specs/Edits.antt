@@ -11,8 +11,8 @@ use Rattle.model.proofs.Lists.{Bytes}
 use Rattle.shelf.specs.Walk.{Listing}
 use Rattle.shelf.specs.Check.{checked}
 use Rattle.list.specs.Write.{Word, wordsOf}
-use Rattle.edit.specs.Edits.{Edit, stored, touches, leftScore, Termed}
-use Rattle.edit.specs.Bytes.{pieces, bytesFor, repacks, edited}
+use Rattle.change.specs.Edits.{Edit, stored, touches, leftScore, Termed}
+use Rattle.change.specs.Bytes.{pieces, bytesFor, repacks, edited}
 use Rattle.edit.specs.Leaves.{Leaves, Capped}
 use Rattle.edit.specs.History.{Try}
 use Rattle.query.specs.Query.{Asked, Question}

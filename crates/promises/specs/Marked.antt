@@ -10,7 +10,7 @@ use Rattle.model.specs.Outcome.{Outcome, refused, done}
 use Rattle.model.specs.Post.{post}
 use Rattle.shelf.specs.Walk.{Block, Listing}
 use Rattle.shelf.specs.Check.{judged, checked}
-use Rattle.edit.specs.Edits.{Set}
+use Rattle.change.specs.Edits.{Set}
 use Rattle.edit.specs.History.{Try, shelfAfter}
 use Rattle.rank.specs.Rank.{Hit}
 use Rattle.pruned.specs.Pruned.{Answer, searched}

@@ -14,14 +14,14 @@ use Rattle.model.specs.Runs.{All}
 use Rattle.wire.specs.Number.{num}
 use Rattle.shelf.specs.Walk.{Block, Listing, postsOf, walk}
 use Rattle.shelf.specs.Check.{badBody, badLists, judged}
-use Rattle.shelf.specs.Find.{found}
-use Rattle.shelf.specs.Gather.{termBlocks}
-use Rattle.shelf.specs.Show.{blockOf}
+use Rattle.lookup.specs.Find.{found}
+use Rattle.lookup.specs.Gather.{termBlocks}
+use Rattle.lookup.specs.Show.{blockOf}
 use Rattle.shelf.specs.declared.check.BadRead.{BadRead}
 use Rattle.shelf.specs.declared.check.BadRead.the-variants.{BadAt, NoBad}
 use Rattle.list.specs.Write.{faultAt, listBytes}
-use Rattle.edit.specs.Edits.{Edit}
-use Rattle.edit.specs.Bytes.{pieces, joined, changed, inRange, there, within}
+use Rattle.change.specs.Edits.{Edit}
+use Rattle.change.specs.Bytes.{pieces, joined, changed, inRange, there, within}
 use Rattle.query.specs.Query.{Asked, termAt, termsIn, fieldCount, allRight, weighted, unrepeated}
 use Rattle.query.specs.declared.fields.FieldsRead.{FieldsRead}
 use Rattle.query.specs.declared.fields.FieldsRead.the-variants.{Terms, Wrong}

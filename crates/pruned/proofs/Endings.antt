@@ -9,7 +9,7 @@ use borrow.Author.Tests.{lt-ltb, le-ltb}
 use Rattle.model.specs.Limits.{maxDocid, maxTerms, maxK}
 use Rattle.model.specs.Outcome.{Outcome, refused, done}
 use Rattle.model.proofs.Lists.{split}
-use Rattle.shelf.specs.declared.gather.Blocks.{Blocks}
+use Rattle.lookup.specs.declared.gather.Blocks.{Blocks}
 use Rattle.rank.specs.Rank.{Hit}
 use Rattle.rank.specs.Match.{anyList}
 use Rattle.rank.specs.Keep.{keptOf}
@@ -19,7 +19,7 @@ use Rattle.prune.specs.Prune.{never, spans, pruned, book, blocksOpened}
 use Rattle.exhaustive.specs.Exhaustive.{paperOf, noHits}
 use Rattle.exhaustive.specs.Merge.{listsFrom}
 use Rattle.exhaustive.specs.declared.all.Verdict.the-variants.{Done, Refused}
-use Rattle.intervals.specs.Table.{blockIn, listsIn}
+use Rattle.opening.specs.Table.{blockIn, listsIn}
 use Rattle.intervals.specs.Blocks.{roomFor, Fills, Books}
 use Rattle.intervals.specs.declared.blocks.Booked.{Booked}
 use Rattle.intervals.proofs.Spans.{spans-long}

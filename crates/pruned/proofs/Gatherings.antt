@@ -8,22 +8,22 @@ use lib.ListN.{length, getD, drop, replicate, length-map, length-append, length-
 use borrow.Author.Tests.{ltb-true, ltb-false}
 use Rattle.model.specs.Limits.{maxDocid, maxTerms, perList}
 use Rattle.model.specs.Runs.{All, Holds}
-use Rattle.model.proofs.Lists.{split, All-map, All-image, Bytes}
+use Rattle.model.proofs.Lists.{split, All-at, All-map, All-image, Bytes}
 use Rattle.shelf.specs.Walk as shelf
 use Rattle.shelf.specs.Walk.{blocksAt}
 use Rattle.shelf.specs.Blocks.{blocksLeft}
-use Rattle.shelf.specs.Table.{least, greatest, top, count, tagAt, maxBlocks, foundLists, flat, endsFrom, Gathered}
-use Rattle.shelf.specs.declared.gather.Blocks.{Blocks}
-use Rattle.shelf.proofs.Tables.{blocks-length}
+use Rattle.lookup.specs.Table.{least, greatest, top, count, tagAt, maxBlocks, foundLists, flat, endsFrom, Gathered}
+use Rattle.lookup.specs.declared.gather.Blocks.{Blocks}
+use Rattle.lookup.proofs.Tables.{blocks-length}
 use Rattle.prune.specs.Cut.{Block, Listing, blockCount}
 use Rattle.exhaustive.specs.Lists.{blockOf}
 use Rattle.exhaustive.specs.Merge as exhaustive
 use Rattle.exhaustive.specs.Merge.{onShelf, readingAt, listsFrom}
 use Rattle.exhaustive.proofs.Wrongs.{walked-at}
-use Rattle.intervals.specs.Table.{gap, numbered, fromOf, listIn, listsIn, bodyIn, blockIn, Ends}
-use Rattle.intervals.specs.Enter.{Loadable}
+use Rattle.opening.specs.Table.{gap, numbered, fromOf, listIn, listsIn, bodyIn, blockIn, Ends}
+use Rattle.opening.specs.Enter.{Loadable}
 use Rattle.intervals.specs.Blocks.{Walked}
-use Rattle.intervals.proofs.Numbers.{numbered-length, numbered-snoc, numbered-is, numbered-same}
+use Rattle.opening.proofs.Numbers.{numbered-length, numbered-snoc, numbered-is, numbered-same}
 use Rattle.pruned.specs.Pruned.{Searchable}
 use Rattle.pruned.proofs.Parts.{numbered-at, flat-all, flat-few, blocks-counted, part-size, part-upto, part-blocks}
 use Rattle.pruned.proofs.Rows.{Bodied, Fit, left-is, list-fit, list-rises}
@@ -37,11 +37,6 @@ held-at : (f : shelf.Block → ℕ) (bs : List shelf.Block) (zs : List ℕ) (i :
 held-at f [] zs i l = absurd (omega arith)
 held-at f (b ∷ bs) zs zero l = refl
 held-at f (b ∷ bs) zs (suc i) l = held-at f bs zs i (omega arith)
-
-all-at : (P : shelf.Block → Type 0) (bs : List shelf.Block) (i : ℕ) → All P bs → i < length bs → P (getD bs i noBlock)
-all-at P [] i all l = absurd (omega arith)
-all-at P (b ∷ bs) zero all l = all .0
-all-at P (b ∷ bs) (suc i) all l = all-at P bs i (all .1) (omega arith)
 
 row-block : (s : List ℕ) (b : shelf.Block) (lo hi tall n at : ℕ) → lo ≡ least b → hi ≡ greatest b → tall ≡ top b → n ≡ count b → at ≡ tagAt b → Bodied s b
     → _≡_ {A = Block} (record { least = lo; greatest = hi; top = tall; body = bodyIn s (record { least = lo; greatest = hi; top = tall; count = n }) at }) (blockOf b)
@@ -143,7 +138,7 @@ module _ (s ats sizes : List ℕ) (k : ℕ) (r : Blocks) (g : Tabled s ats sizes
 
   module _ (i : ℕ) (l : i < length all) where
     here : Fit s (getD all i noBlock)
-    here = all-at (Fit s) all i blocks-fit l
+    here = All-at (Fit s) all noBlock i blocks-fit l
 
     block-is : blockIn s (r .los) (r .his) (r .tops) (r .counts) (r .bodies) i ≡ blockOf (getD all i noBlock)
     block-is =

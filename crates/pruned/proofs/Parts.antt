@@ -9,10 +9,10 @@ use Rattle.model.specs.Limits.{perList}
 use Rattle.model.specs.Runs.{All}
 use Rattle.model.proofs.Lists.{All-append, getD-map}
 use Rattle.shelf.specs.Walk.{Block}
-use Rattle.shelf.specs.Table.{flat, endsFrom}
+use Rattle.lookup.specs.Table.{flat, endsFrom}
 use Rattle.prune.specs.Cut.{Listing, blockCount}
-use Rattle.intervals.specs.Table.{numbered}
-use Rattle.intervals.proofs.Numbers.{numbered-is}
+use Rattle.opening.specs.Table.{numbered}
+use Rattle.opening.proofs.Numbers.{numbered-is}
 
 -- what stands at a number
 pub numbered-at : {A : Type 0} (z : A) (at : ℕ → A) (n f t : ℕ) → t < n → getD (numbered at n f) t z ≡ at (f + t)

@@ -9,16 +9,16 @@ use lib.Seq.{length-take-le, getD-append-add}
 use borrow.Author.Tests.{le-leb, lt-leb, ltb-true, ltb-false}
 use Rattle.model.specs.Limits.{maxDocid, maxTerms, maxK}
 use Rattle.model.specs.Outcome.{Outcome, refused, done}
-use Rattle.model.proofs.Lists.{split}
+use Rattle.model.proofs.Lists.{split, map-same}
 use Rattle.query.specs.Query.{Question, asked, termsOf as askedTerms}
 use Rattle.query.specs.Answers.{Carries, zeros as noTerms}
 use Rattle.query.specs.declared.read.Query.{Query}
 use Rattle.shelf.specs.Walk as shelf
 use Rattle.shelf.specs.Walk.{walk}
-use Rattle.shelf.specs.Gather.{placeAt, Finds}
-use Rattle.shelf.specs.Table.{Gatherable}
-use Rattle.shelf.specs.declared.gather.Found.{Found}
-use Rattle.shelf.proofs.Terms.{found-gatherable}
+use Rattle.lookup.specs.Gather.{placeAt, Finds}
+use Rattle.lookup.specs.Table.{Gatherable}
+use Rattle.lookup.specs.declared.gather.Found.{Found}
+use Rattle.lookup.proofs.Terms.{found-gatherable}
 use Rattle.rank.specs.Rank.{Hit}
 use Rattle.prune.specs.Cut.{Listing, starts, ceilingAt}
 use Rattle.exhaustive.specs.Lists.{listingsOf}
@@ -39,10 +39,6 @@ filled o starts ceilings marks opened blocks fs cs ms =
 filled-same : (o p : Outcome (List Hit)) (ss ts cs ds ms ns : List ℕ) (a b c d : ℕ) (x y z : List ℕ) → o ≡ p → ss ≡ ts → cs ≡ ds → ms ≡ ns → a ≡ b → c ≡ d
     → filled o ss cs ms a c x y z ≡ filled p ts ds ns b d x y z
 filled-same o p ss ts cs ds ms ns a b c d x y z e f g h i j = rw (e, f, g, h, i, j)
-
-map-same : (f g : ℕ → ℕ) (xs : List ℕ) → ((x : ℕ) → f x ≡ g x) → map f xs ≡ map g xs
-map-same f g [] h = refl
-map-same f g (x ∷ xs) h = cc (h x, map-same f g xs h)
 
 module _ (k : ℕ) (fs cs ms : List ℕ) where
   one-blank : (w : ℕ) (ls : List Listing) → over k fs cs ms (ls ++ (blank w ∷ [])) ≡ over k fs cs ms ls

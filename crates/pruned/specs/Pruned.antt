@@ -9,7 +9,7 @@ use Rattle.model.specs.Limits.{maxDocid, maxTerms, maxK}
 use Rattle.model.specs.Outcome.{Outcome, refused, done, andThen}
 use Rattle.query.specs.Query.{asked}
 use Rattle.shelf.specs.Walk.{walk}
-use Rattle.shelf.specs.Table.{Gatherable}
+use Rattle.lookup.specs.Table.{Gatherable}
 use Rattle.rank.specs.Rank.{Hit}
 use Rattle.rank.specs.Match.{anyList}
 use Rattle.rank.specs.Keep.{keptOf}

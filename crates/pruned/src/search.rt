@@ -5,10 +5,10 @@ ghost use lib.ListN.{length};
 ghost use Rattle.exhaustive.specs.Merge.{listsFrom};
 ghost use Rattle.pruned.specs.Pruned.{Searchable, refusal, fitting, answer, searched, Answers};
 use exhaustive::all::Verdict;
+use lookup::gather::Found;
 use query::read::Verdict as Asking;
 use rank::keep::Kept;
 use shelf::check::Checked;
-use shelf::gather::Found;
 
 // The verdict; how many intervals there are, how many blocks an opened one met, how many blocks the query's lists have; the hits.
 pub struct Pruned {
@@ -48,7 +48,7 @@ fn over_found(
     requires { ⌜ Searchable (now shelf) (found .ats) (found .counts) k ⌝ }
     ensures { λ r. ⌜ Answers (answer (fitting k (listsFrom (now (shelf .entry)) weights (found .ats) (found .counts)) (length (now (firsts .entry))) (length (now (ceilings .entry))) (length (now (marks .entry)))) (now (firsts .entry)) (now (ceilings .entry)) (now (marks .entry))) (now (firsts .exit)) (now (ceilings .exit)) (now (marks .exit)) r ⌝ }
 {
-    let blocks = shelf::gather::gather(shelf, found, 8);
+    let blocks = lookup::gather::gather(shelf, found, 8);
     let ends = blocks.ends;
     let los = blocks.los;
     let his = blocks.his;
@@ -105,7 +105,7 @@ pub fn search(
         Asking::Good => {
             let terms = q.terms;
             let weights = q.weights;
-            let found = shelf::gather::find_terms(shelf, terms, q.n);
+            let found = lookup::gather::find_terms(shelf, terms, q.n);
             let ats = found.ats;
             let counts = found.counts;
             let walked = found.verdict;

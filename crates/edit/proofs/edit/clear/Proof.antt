@@ -8,8 +8,8 @@ use lib.ListN.{length}
 use Rattle.shelf.specs.Check.{checked, paper}
 use Rattle.shelf.specs.declared.check.Checked.the-variants.{Sound, Fault}
 use Rattle.list.proofs.Faults.{gives-refused}
-use Rattle.edit.specs.Edits.{Clear}
-use Rattle.edit.specs.Bytes.{inRange}
+use Rattle.change.specs.Edits.{Clear}
+use Rattle.change.specs.Bytes.{inRange}
 use Rattle.edit.proofs.Sittings.{judged-lists}
 use Rattle.edit.proofs.Entries.{edited-range, edited-sound, edited-fault}
 use Rattle.edit.proofs.edit.clear.Statement.{statement}

@@ -11,11 +11,11 @@ use Rattle.shelf.specs.Walk.{Listing, list}
 use Rattle.shelf.specs.Check.{checked}
 use Rattle.shelf.specs.Answers.{listOf}
 use Rattle.shelf.specs.declared.walk.ListRead.the-variants.{Is, Not}
-use Rattle.edit.specs.Seat.{Wide}
+use Rattle.change.specs.Seat.{Wide}
 use Rattle.edit.specs.Left.{leftBytes}
-use Rattle.edit.proofs.Seats.{list-onward}
+use Rattle.change.proofs.Seats.{list-onward}
 use Rattle.edit.proofs.Sittings.{judged-lists}
-use Rattle.edit.proofs.Pieces.{checked-sound}
+use Rattle.change.proofs.Pieces.{checked-sound}
 use Rattle.edit.proofs.Lefts.{list-starts, left-small, Adding, add-start, add-end, add-never, add-goes, add-on}
 use Rattle.edit.proofs.withdraw.measure.Statement.{statement}
 use Rattle.edit.proofs.withdraw.measure.Tie as tie

@@ -12,8 +12,8 @@ use Rattle.shelf.specs.Walk.{Listing, list}
 use Rattle.shelf.specs.Check.{checked}
 use Rattle.shelf.specs.Answers.{listOf}
 use Rattle.shelf.specs.declared.walk.ListRead.the-variants.{Is, Not}
-use Rattle.edit.specs.Seat.{Wide}
-use Rattle.edit.proofs.Seats.{list-onward}
+use Rattle.change.specs.Seat.{Wide}
+use Rattle.change.proofs.Seats.{list-onward}
 use Rattle.edit.proofs.Sittings.{judged-lists}
 use Rattle.edit.proofs.Lefts.{Putting, put-start, put-end, put-never, put-goes, put-room, put-on}
 use Rattle.edit.proofs.withdraw.put_all.Statement.{statement}

@@ -6,8 +6,8 @@ use mathlib.Core.Path.{sym, _∙_}
 use borrow.Author.Tests.{not-true, not-false}
 use lib.ListN.{length}
 use Rattle.list.proofs.Faults.{gives-refused, gives-done}
-use Rattle.edit.specs.Edits.{every}
-use Rattle.edit.specs.Bytes.{pieces, joined, clearPieces}
+use Rattle.change.specs.Edits.{every}
+use Rattle.change.specs.Bytes.{pieces, joined, clearPieces}
 use Rattle.edit.proofs.Lefts.{withdraw-none, withdraw-some, fit-large, fit-tight, fit-done}
 use Rattle.edit.proofs.withdraw.withdraw_in.Statement.{statement}
 use Rattle.edit.proofs.withdraw.withdraw_in.Tie as tie

@@ -10,7 +10,7 @@ use Rattle.rank.specs.Match.{anyList}
 use Rattle.rank.specs.Keep.{keptOf}
 use Rattle.prune.specs.Search.{opens}
 use Rattle.prune.specs.Prune.{never, spans}
-use Rattle.intervals.specs.Table.{blockIn, listsIn}
+use Rattle.opening.specs.Table.{blockIn, listsIn}
 use Rattle.intervals.proofs.Spans.{noSpan}
 use Rattle.intervals.proofs.Runnings.{Past, opens-few, skip-past, skip-long, kth-none, ceilings-long, past-none, past-skip, past-rebase, past-few, past-next, past-places, past-enters, past-opens, past-open, past-stop, past-done}
 use Rattle.intervals.proofs.run.over_intervals.Statement.{statement}

@@ -40,16 +40,16 @@ use denote.Triple.Table.{entered, cited}
 use denote.Triple.Walked.{says, Stays, stay-none, walkOf, goes-none, Walks, ends-at, walked, walk-meets}
 use denote.Exit.{yes}
 use denote.Triple.Clauses.{ensured, lasts}
-use Rattle.shelf.specs.Show.{bodyShown}
-use Rattle.shelf.specs.declared.find.Shown.{Shown}
-use Rattle.shelf.specs.declared.find.BodyShown.{BodyShown}
-use Rattle.shelf.proofs.find.Shown as P
-use Rattle.shelf.proofs.find.Shown.Laws as P′
-use Rattle.shelf.proofs.find.BodyShown as S
-use Rattle.shelf.proofs.find.BodyShown.Laws as S′
-use Rattle.shelf.proofs.find.body_shown.Symbol as shown-def
-use Rattle.shelf.proofs.find.body_shown.Symbol.{name as #body-shown}
-use Rattle.shelf.proofs.find.body_shown.Met as shown-thm
+use Rattle.lookup.specs.Show.{bodyShown}
+use Rattle.lookup.specs.declared.find.Shown.{Shown}
+use Rattle.lookup.specs.declared.find.BodyShown.{BodyShown}
+use Rattle.lookup.proofs.find.Shown as P
+use Rattle.lookup.proofs.find.Shown.Laws as P′
+use Rattle.lookup.proofs.find.BodyShown as S
+use Rattle.lookup.proofs.find.BodyShown.Laws as S′
+use Rattle.lookup.proofs.find.body_shown.Symbol as shown-def
+use Rattle.lookup.proofs.find.body_shown.Symbol.{name as #body-shown}
+use Rattle.lookup.proofs.find.body_shown.Met as shown-thm
 use Rattle.lent.specs.View.{Inside, IsPart}
 use Rattle.lent.specs.declared.view.ListView.{ListView}
 use Rattle.lent.specs.declared.view.BodyPart.{BodyPart}
@@ -198,5 +198,5 @@ body-spec 𝓤 H 𝓜 𝓖 𝓡 =
     entered 𝓤 H (tripleOf 𝓤 H (𝓖 .A) f.signature (f.spec 𝓤 H (𝓖 .A) (𝓜 .mem) (𝓡 .run)))
     (tables 𝓤 H 𝓜 𝓡 code.env .C) (tables 𝓤 H 𝓜 𝓡 code.env .Λ) #body code.function (code.unfolded 𝓤 H 𝓜 𝓡)
     (meets 𝓤 H (𝓖 .A) (givenOf 𝓤 H 𝓜 𝓖) (𝓜 .mem) (𝓡 .run) (tablesOf 𝓤 H 𝓜 (tables 𝓤 H 𝓜 𝓡 code.env))
-    (cited 𝓤 H (Callee ρ Said 𝓤 H (𝓖 .A)) 𝓜 𝓡 code.env #body-shown shown-def.routine code.calls-shelf·find·body-shown (shown-thm.met 𝓤 H 𝓜 𝓖 𝓡))
+    (cited 𝓤 H (Callee ρ Said 𝓤 H (𝓖 .A)) 𝓜 𝓡 code.env #body-shown shown-def.routine code.calls-lookup·find·body-shown (shown-thm.met 𝓤 H 𝓜 𝓖 𝓡))
     (cited 𝓤 H (Part 𝓤 H (𝓖 .A) (𝓜 .mem) (𝓡 .run)) 𝓜 𝓡 code.env #part part-def.routine code.calls-lent·view·part (part-thm.met 𝓤 H 𝓜 𝓖 𝓡)))

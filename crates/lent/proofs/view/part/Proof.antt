@@ -5,7 +5,7 @@ use mathlib.Core.Path.{_≡_, refl}
 use Prim.Native.Nat.{_≤_}
 use denote.Ref.{now}
 use lib.ListN.{length}
-use Rattle.shelf.specs.declared.find.BodyShown.the-variants.{Part, NoBody}
+use Rattle.lookup.specs.declared.find.BodyShown.the-variants.{Part, NoBody}
 use Rattle.lent.proofs.view.part.Statement.{statement}
 use Rattle.lent.proofs.view.part.Tie as tie
 

@@ -38,16 +38,16 @@ use denote.Triple.Table.{entered, cited}
 use denote.Triple.Walked.{says, Stays, stay-none, walkOf, goes-none, Walks, ends-at, walked, walk-meets}
 use denote.Exit.{yes}
 use denote.Triple.Clauses.{ensured}
-use Rattle.shelf.specs.Show.{summaryShown}
-use Rattle.shelf.specs.declared.find.Shown.{Shown}
-use Rattle.shelf.specs.declared.find.SummaryShown.{SummaryShown}
-use Rattle.shelf.proofs.find.Shown as P
-use Rattle.shelf.proofs.find.Shown.Laws as P′
-use Rattle.shelf.proofs.find.SummaryShown as R
-use Rattle.shelf.proofs.find.SummaryShown.Laws as R′
-use Rattle.shelf.proofs.find.summary_shown.Symbol as callee-def
-use Rattle.shelf.proofs.find.summary_shown.Symbol.{name as #summary-shown}
-use Rattle.shelf.proofs.find.summary_shown.Met as callee-thm
+use Rattle.lookup.specs.Show.{summaryShown}
+use Rattle.lookup.specs.declared.find.Shown.{Shown}
+use Rattle.lookup.specs.declared.find.SummaryShown.{SummaryShown}
+use Rattle.lookup.proofs.find.Shown as P
+use Rattle.lookup.proofs.find.Shown.Laws as P′
+use Rattle.lookup.proofs.find.SummaryShown as R
+use Rattle.lookup.proofs.find.SummaryShown.Laws as R′
+use Rattle.lookup.proofs.find.summary_shown.Symbol as callee-def
+use Rattle.lookup.proofs.find.summary_shown.Symbol.{name as #summary-shown}
+use Rattle.lookup.proofs.find.summary_shown.Met as callee-thm
 use Rattle.lent.specs.declared.view.ListView.{ListView}
 use Rattle.lent.proofs.view.ListView as T
 use Rattle.lent.proofs.view.ListView.Laws as T′
@@ -138,4 +138,4 @@ summary-spec 𝓤 H 𝓜 𝓖 𝓡 =
     entered 𝓤 H (tripleOf 𝓤 H (𝓖 .A) f.signature (f.spec 𝓤 H (𝓖 .A) (𝓜 .mem) (𝓡 .run)))
     (tables 𝓤 H 𝓜 𝓡 code.env .C) (tables 𝓤 H 𝓜 𝓡 code.env .Λ) #summary code.function (code.unfolded 𝓤 H 𝓜 𝓡)
     (meets 𝓤 H (𝓖 .A) (givenOf 𝓤 H 𝓜 𝓖) (𝓜 .mem) (𝓡 .run) (tablesOf 𝓤 H 𝓜 (tables 𝓤 H 𝓜 𝓡 code.env))
-    (cited 𝓤 H (Callee ρ Said 𝓤 H (𝓖 .A)) 𝓜 𝓡 code.env #summary-shown callee-def.routine code.calls-shelf·find·summary-shown (callee-thm.met 𝓤 H 𝓜 𝓖 𝓡)))
+    (cited 𝓤 H (Callee ρ Said 𝓤 H (𝓖 .A)) 𝓜 𝓡 code.env #summary-shown callee-def.routine code.calls-lookup·find·summary-shown (callee-thm.met 𝓤 H 𝓜 𝓖 𝓡)))

@@ -38,18 +38,18 @@ use denote.Triple.Table.{entered, cited}
 use denote.Triple.Walked.{says, Stays, stay-none, stay-none-slice, walkOf, goes-none, goes-none-slice, Walks, ends-at, walked, walk-meets}
 use denote.Exit.{yes}
 use denote.Triple.Clauses.{ensured, lasts}
-use Rattle.shelf.specs.Find.{shownOf, found}
+use Rattle.lookup.specs.Find.{shownOf, found}
 use Rattle.lent.specs.declared.view.ListView.{ListView}
-use Rattle.shelf.specs.declared.find.Shown.{Shown}
+use Rattle.lookup.specs.declared.find.Shown.{Shown}
 use Rattle.lent.proofs.view.ListView as T
 use Rattle.lent.proofs.view.ListView.Laws as T′
-use Rattle.shelf.proofs.find.Shown as P
-use Rattle.shelf.proofs.find.Shown.Laws as P′
+use Rattle.lookup.proofs.find.Shown as P
+use Rattle.lookup.proofs.find.Shown.Laws as P′
 use Rattle.lent.proofs.Views.{view-val, place-val, slice-val}
-use Rattle.shelf.proofs.find.find_list as find
-use Rattle.shelf.proofs.find.find_list.Symbol as find-def
-use Rattle.shelf.proofs.find.find_list.Symbol.{name as #find-list}
-use Rattle.shelf.proofs.find.find_list.Met as find-thm
+use Rattle.lookup.proofs.find.find_list as find
+use Rattle.lookup.proofs.find.find_list.Symbol as find-def
+use Rattle.lookup.proofs.find.find_list.Symbol.{name as #find-list}
+use Rattle.lookup.proofs.find.find_list.Met as find-thm
 use Rattle.lent.proofs.view.view.Key.{name as #view}
 use Rattle.lent.proofs.view.view as f
 use Rattle.lent.proofs.view.view.Statement as stated
@@ -147,4 +147,4 @@ view-spec 𝓤 H 𝓜 𝓖 𝓡 =
     entered 𝓤 H (tripleOf 𝓤 H (𝓖 .A) f.signature (f.spec 𝓤 H (𝓖 .A) (𝓜 .mem) (𝓡 .run)))
     (tables 𝓤 H 𝓜 𝓡 code.env .C) (tables 𝓤 H 𝓜 𝓡 code.env .Λ) #view code.function (code.unfolded 𝓤 H 𝓜 𝓡)
     (meets 𝓤 H (𝓖 .A) (givenOf 𝓤 H 𝓜 𝓖) (𝓜 .mem) (𝓡 .run) (tablesOf 𝓤 H 𝓜 (tables 𝓤 H 𝓜 𝓡 code.env))
-    (cited 𝓤 H (Find 𝓤 H (𝓖 .A) (𝓜 .mem) (𝓡 .run)) 𝓜 𝓡 code.env #find-list find-def.routine code.calls-shelf·find·find-list (find-thm.met 𝓤 H 𝓜 𝓖 𝓡)))
+    (cited 𝓤 H (Find 𝓤 H (𝓖 .A) (𝓜 .mem) (𝓡 .run)) 𝓜 𝓡 code.env #find-list find-def.routine code.calls-lookup·find·find-list (find-thm.met 𝓤 H 𝓜 𝓖 𝓡)))

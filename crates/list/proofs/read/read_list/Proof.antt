@@ -2,8 +2,8 @@
 use mathlib.Core.Path.{_≡_}
 use denote.Ref.{now}
 use lib.ListN.{length}
-use Rattle.shelf.specs.Find.{found, shownOf}
-use Rattle.shelf.specs.declared.find.Shown.the-variants as shown
+use Rattle.lookup.specs.Find.{found, shownOf}
+use Rattle.lookup.specs.declared.find.Shown.the-variants as shown
 use Rattle.list.specs.Read.{readList}
 use Rattle.list.proofs.Given.{reads-refused, read-found, read-refused}
 use borrow.Author.Needs.{needs}
