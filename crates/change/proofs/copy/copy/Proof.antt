@@ -1,4 +1,4 @@
--- `edit::copy` meets its contract. The invariant: what is left to copy stands where it is due (`Copies`). Assumes nothing.
+-- `change::copy::copy` meets its contract. The invariant: what is left to copy stands where it is due (`Copies`). Assumes nothing.
 use denote.Ref.{now}
 use Prim.Native.Nat.{_-_, _<_}
 use lib.ListN.{length}

@@ -1,4 +1,4 @@
--- `edit::place` meets its contract: a law for each refusal and each kind of seat (`News`). Assumes nothing.
+-- `change::place::place` meets its contract: a law for each refusal and each kind of seat (`News`). Assumes nothing.
 use denote.Ref.{now}
 use native.Mathlib.Omega.{arith}
 use mathlib.Core.Path.{_≡_}

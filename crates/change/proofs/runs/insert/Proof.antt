@@ -1,4 +1,4 @@
--- `edit::insert` meets its contract. The invariant: the postings passed are placed, and one is carried before the others (`Runnings`). Assumes nothing.
+-- `change::runs::insert` meets its contract. The invariant: the postings passed are placed, and one is carried before the others (`Runnings`). Assumes nothing.
 use denote.Ref.{now}
 use mathlib.Core.Path.{refl}
 use lib.ListN.{getD, length-set}

@@ -1,4 +1,4 @@
--- `edit::lower` meets its contract, by its test. Assumes nothing.
+-- `change::runs::lower` meets its contract, by its test. Assumes nothing.
 use borrow.Author.Tests.{lt-ltb, le-ltb}
 use Rattle.change.proofs.runs.lower.Statement.{statement}
 use Rattle.change.proofs.runs.lower.Tie as tie

@@ -1,4 +1,4 @@
--- `edit::upper` meets its contract, by its test. Assumes nothing.
+-- `change::runs::upper` meets its contract, by its test. Assumes nothing.
 use borrow.Author.Tests.{lt-ltb, le-ltb}
 use Rattle.change.proofs.runs.upper.Statement.{statement}
 use Rattle.change.proofs.runs.upper.Tie as tie

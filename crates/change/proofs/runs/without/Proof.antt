@@ -1,4 +1,4 @@
--- `edit::without` meets its contract. The invariant: of the postings passed, those that stay are in front (`Runnings`). Assumes nothing.
+-- `change::runs::without` meets its contract. The invariant: of the postings passed, those that stay are in front (`Runnings`). Assumes nothing.
 use denote.Ref.{now}
 use Prim.Native.Nat.{ℕ, _+_, _-_}
 use mathlib.Core.Path.{subst, sym}

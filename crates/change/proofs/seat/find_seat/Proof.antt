@@ -1,4 +1,4 @@
--- `edit::find_seat` meets its contract. The invariant: the seat among the lists left is the seat among all (`Seats`). Assumes nothing.
+-- `change::seat::find_seat` meets its contract. The invariant: the seat among the lists left is the seat among all (`Seats`). Assumes nothing.
 use denote.Ref.{now}
 use lib.ListN.{drop, length}
 use Prim.Native.Nat.{_<_, _-_, _≤_}

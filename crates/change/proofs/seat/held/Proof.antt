@@ -1,4 +1,4 @@
--- `edit::held` meets its contract: by what the reader fills, or by nothing. Assumes nothing.
+-- `change::seat::held` meets its contract: by what the reader fills, or by nothing. Assumes nothing.
 use denote.Ref.{now}
 use mathlib.Core.Path.{_≡_}
 use lib.ListN.{length}

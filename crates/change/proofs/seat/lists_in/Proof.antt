@@ -1,4 +1,4 @@
--- `edit::lists_in` meets its contract. The invariant: the lists counted and those left are all (`Seats`). Assumes nothing.
+-- `change::seat::lists_in` meets its contract. The invariant: the lists counted and those left are all (`Seats`). Assumes nothing.
 use denote.Ref.{now}
 use lib.ListN.{drop, length}
 use Prim.Native.Nat.{_<_, _-_, _≤_}

@@ -1,4 +1,4 @@
--- `edit::new_len` meets its contract, by its test and the writer's length. Assumes nothing.
+-- `change::splice::new_len` meets its contract, by its test and the writer's length. Assumes nothing.
 use denote.Ref.{now}
 use native.Mathlib.Omega.{arith}
 use mathlib.Core.Path.{ap, sym, _∙_}

@@ -1,4 +1,4 @@
--- `edit::put_new` meets its contract, by its test and what the writer stores. Assumes nothing.
+-- `change::splice::put_new` meets its contract, by its test and what the writer stores. Assumes nothing.
 use denote.Ref.{now}
 use mathlib.Core.Path.{sym}
 use Rattle.model.proofs.Storing.{stored-as}

@@ -1,4 +1,4 @@
--- `edit::splice` meets its contract: its length, 11 and 9 first, then three parts stored one after the other (`News`). Assumes nothing.
+-- `change::splice::splice` meets its contract: its length, 11 and 9 first, then three parts stored one after the other (`News`). Assumes nothing.
 use denote.Ref.{now}
 use Prim.Native.Nat.{_≤_}
 use native.Mathlib.Omega.{arith}

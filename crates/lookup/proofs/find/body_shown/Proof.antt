@@ -1,4 +1,4 @@
--- `shelf::find::body_shown` meets its contract: each return is a law of `Shows`. Assumes nothing.
+-- `lookup::find::body_shown` meets its contract: each return is a law of `Shows`. Assumes nothing.
 use borrow.Author.Needs.{needs}
 use Prim.Native.Nat.{_<_, _≤_}
 use mathlib.Core.Path.{_≡_, sym, _∙_}

@@ -1,4 +1,4 @@
--- `shelf::find::find_list` meets its contract. The invariant: the answer for all is the answer for the lists that are left, after what is known.
+-- `lookup::find::find_list` meets its contract. The invariant: the answer for all is the answer for the lists that are left, after what is known.
 -- Assumes nothing.
 use mathlib.Core.Path.{_≡_, sym, ap, _∙_}
 use denote.Ref.{now}

@@ -1,4 +1,4 @@
--- `shelf::find::has_block` meets its contract: each return is a law of `Shows` at the tests that led there. Assumes nothing.
+-- `lookup::find::has_block` meets its contract: each return is a law of `Shows` at the tests that led there. Assumes nothing.
 use borrow.Author.Needs.{needs}
 use denote.Ref.{now}
 use Rattle.lookup.proofs.Shows.{has-not, has-short, has-room}

@@ -1,4 +1,4 @@
--- `shelf::find::here_or` meets its contract. Assumes nothing.
+-- `lookup::find::here_or` meets its contract. Assumes nothing.
 use mathlib.Core.Path.{_≡_}
 use borrow.Author.Tests.{eq-eqb, ne-eqb}
 use borrow.Author.Needs.{needs}

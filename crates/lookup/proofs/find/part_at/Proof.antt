@@ -1,4 +1,4 @@
--- `shelf::find::part_at` meets its contract: what `field` found. Assumes nothing.
+-- `lookup::find::part_at` meets its contract: what `field` found. Assumes nothing.
 use borrow.Author.Needs.{needs}
 use mathlib.Core.Path.{_≡_, sym}
 use native.Mathlib.Omega.{arith}

@@ -1,4 +1,4 @@
--- `shelf::gather::find_terms` meets its contract. The invariant: the lists passed, and what is noted of them. Assumes nothing.
+-- `lookup::gather::find_terms` meets its contract. The invariant: the lists passed, and what is noted of them. Assumes nothing.
 use mathlib.Core.Path.{_≡_}
 use denote.Ref.{now}
 use borrow.Author.Needs.{needs}

@@ -1,4 +1,4 @@
--- `shelf::gather::gather` meets its contract. The invariant: the lists before t are gathered (`Gathering`). Assumes nothing.
+-- `lookup::gather::gather` meets its contract. The invariant: the lists before t are gathered (`Gathering`). Assumes nothing.
 use Prim.Native.Nat.{_-_, _≤_}
 use native.Mathlib.Omega.{arith}
 use mathlib.Core.Path.{_≡_}

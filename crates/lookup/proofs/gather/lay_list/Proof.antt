@@ -1,4 +1,4 @@
--- `shelf::gather::lay_list` meets its contract. The invariant: what is laid and what is left are the list's blocks (`Laying`). Assumes nothing.
+-- `lookup::gather::lay_list` meets its contract. The invariant: what is laid and what is left are the list's blocks (`Laying`). Assumes nothing.
 use Prim.Native.Nat.{_<_}
 use native.Mathlib.Omega.{arith}
 use mathlib.Core.Path.{_≡_}

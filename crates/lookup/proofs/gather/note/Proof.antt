@@ -1,4 +1,4 @@
--- `shelf::gather::note` meets its contract. The invariant: the list is noted for the terms before i. Assumes nothing.
+-- `lookup::gather::note` meets its contract. The invariant: the list is noted for the terms before i. Assumes nothing.
 use Prim.Native.Nat.{_-_, _≤_, _<_}
 use native.Mathlib.Omega.{arith}
 use mathlib.Core.Path.{_≡_, refl, _∙_}
