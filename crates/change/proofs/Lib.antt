@@ -1,5 +1,4 @@
 -- Laws of postings that change, of a shelf as pieces, and of a list put at its seat.
-pub mod Fronts
 pub mod Postings
 pub mod Pieces
 pub mod Copies

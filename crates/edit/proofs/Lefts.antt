@@ -21,19 +21,20 @@ use Rattle.shelf.specs.declared.walk.Place.{Place}
 use Rattle.shelf.specs.declared.walk.ListRead.the-variants.{Is, Not}
 use Rattle.shelf.specs.declared.check.BadRead.the-variants.{NoBad}
 use Rattle.shelf.proofs.Walks.{list-is, list-not, list-walked}
+use Rattle.shelf.proofs.Sounds.{or-none}
 use Rattle.list.specs.Write.{Writable, Words, wordsOf}
 use Rattle.list.specs.Fill.{Filled}
 use Rattle.list.proofs.Pours.{right-count}
 use Rattle.list.proofs.Shelves.{sound-words}
 use Rattle.change.specs.Edits.{Withdraw, clearPost, every}
-use Rattle.change.specs.Bytes.{Piece, pieceOf, pieces, joined, holds, clearPieces, changed, some, there, few, within, settled}
+use Rattle.change.specs.Bytes.{Piece, pieceOf, pieces, joined, holds, clearPieces, changed, some, there, few, settled}
 use Rattle.change.specs.Runs.{Runs, Clears}
 use Rattle.change.specs.Seat.{packedBytes, fitting, May, Wide}
 use Rattle.edit.specs.Left.{postsAt, Sought, Sized, leftBytes, LeftOf, Measures}
 use Rattle.edit.specs.declared.withdraw.Left.{Left}
 use Rattle.change.proofs.Postings.{may-fit, clear-fit, clear-length}
 use Rattle.change.proofs.Runnings.{postings-own}
-use Rattle.change.proofs.Pieces.{or-none, not-stopped, lists-nil, lists-inv, checked-sound, sound-lists, sound-shelved}
+use Rattle.change.proofs.Pieces.{not-stopped, lists-nil, lists-inv, checked-sound, sound-lists, sound-rises}
 use Rattle.edit.proofs.Changes.{rises-few}
 use Rattle.edit.proofs.Splices.{settled-none, settled-as, joined-unless, few-unless, length-unless, pieces-length, few-front}
 use Rattle.change.proofs.News.{held-taken, new-small}
@@ -246,7 +247,7 @@ module _ (s : List ℕ) (ls : List Listing) (b : Bytes s) (e : checked s ≡ don
   pub withdraw-some : some (holds every d) (pieces s ls) ≡ true → settled (Withdraw d) (pieces s ls) room ≡ fitting (joined (clearPieces every d (pieces s ls))) room
   unfolding there changed
   withdraw-some h =
-      let f = clear-few every d (pieces s ls) (rises-few 0 (pieces s ls) (sound-shelved s ls b e .rises)) in
+      let f = clear-few every d (pieces s ls) (rises-few 0 (pieces s ls) (sound-rises s ls b e)) in
       let most : length (clearPieces every d (pieces s ls)) ≤ maxLists = omega (arith, f .1, pieces-length s ls, sound-lists s ls e) in
       settled-as (Withdraw d) (pieces s ls) (clearPieces every d (pieces s ls)) room (joined (clearPieces every d (pieces s ls))) true h refl
       (rw (f .0, le-leb (length (clearPieces every d (pieces s ls))) 1024 most)) refl

@@ -2,7 +2,6 @@
 pub mod Changes
 pub mod Sounds
 pub mod Histories
-pub mod Examples
 pub mod Splices
 pub mod Sittings
 pub mod Entries

@@ -17,12 +17,13 @@ use Rattle.block.specs.Body.{bodyPosts, fits, rightBody}
 use Rattle.shelf.specs.Walk.{Block, Listing, readOr}
 use Rattle.shelf.specs.Check.{badBody, badLists, checked}
 use Rattle.shelf.specs.declared.check.BadRead.the-variants.{BadAt, NoBad}
+use Rattle.shelf.proofs.Sounds.{or-none}
 use Rattle.list.specs.Write.{Word, wordsOf}
 use Rattle.list.proofs.Shelves.{sound-words}
 use Rattle.change.specs.Edits.{Edit, applied, stored, touches, leftScore, Termed}
 use Rattle.edit.specs.Leaves.{Leaves, Capped}
 use Rattle.change.specs.Bytes.{bytesFor, repacks, Piece, pieces, joined, contents, changed, inRange, there, few, within, settled, edited}
-use Rattle.change.proofs.Pieces.{or-none, Rises, checked-sound, sound-shelved, standing-sound}
+use Rattle.change.proofs.Pieces.{Rises, checked-sound, sound-rises, standing-sound}
 use Rattle.edit.proofs.Changes.{contents-words, changed-rises, changed-contents, changed-copies}
 use Rattle.change.proofs.Postings.{words-ordered, stored-applied}
 
@@ -88,7 +89,7 @@ edit-sound e s old room v t b c q =
     let a = edited-done e s room v q in
     let same : a .old ≡ old = let z : done (a .old) ≡ done old = sym (a .sound) ∙ c in cc in
     let p : Passed e (pieces s old) room v = subst (λ (x : List Listing). Passed e (pieces s x) room v) same (a .passed) in
-    leaves e s old room v t (a .ranged) (sound-shelved s old b c .rises) p
+    leaves e s old room v t (a .ranged) (sound-rises s old b c) p
 
 -- ---- the same, said of each posting and of each list
 

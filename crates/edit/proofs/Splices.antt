@@ -19,6 +19,7 @@ use Rattle.shelf.specs.Answers.{Ready}
 use Rattle.shelf.specs.declared.walk.Place.{Place}
 use Rattle.shelf.specs.declared.check.BadRead.the-variants.{NoBad}
 use Rattle.shelf.proofs.Walks.{list-walked}
+use Rattle.shelf.proofs.Sounds.{or-none}
 use Rattle.list.specs.Write.{Writable, Words, wordsOf, listBytes}
 use Rattle.list.proofs.Shelves.{sound-words}
 use Rattle.change.specs.Edits.{Edit, Set, Clear, setPost, clearPost, only}
@@ -27,7 +28,7 @@ use Rattle.change.specs.Seat.{seatOf, heldBy, packedBytes, spliced, fitting, pl
 use Rattle.change.specs.declared.seat.Seat.{Seat}
 use Rattle.change.proofs.Postings.{set-some, clear-length}
 use Rattle.change.specs.declared.seat.Seat.the-variants.{Taken, Free}
-use Rattle.change.proofs.Pieces.{or-none, lists-inv, shelved, checked-sound, sound-lists, sound-shelved}
+use Rattle.change.proofs.Pieces.{lists-inv, pieces-joined, checked-sound, sound-lists, sound-rises}
 use Rattle.edit.proofs.Changes.{rises-few}
 
 -- ---- the pieces before and after the seat of term t
@@ -105,7 +106,7 @@ taken n floor at t s (l ∷ ms) p e b g q =
       term = sym tt1;
       posts = ap {B = List Post} postsOf bl;
       front = rw (w .start) (bytes-none (take at s));
-      back = shelved (n - 1) (l .place .term + 1) (l .place .next) s ms (i .left) (o .1) (g .3) .whole;
+      back = pieces-joined (n - 1) (l .place .term + 1) (l .place .next) s ms (i .left);
       ready = w .ready;
       right = rw bl at (o .0);
       may = rw bl at (g .2);
@@ -138,7 +139,7 @@ freed : (n floor at t : ℕ) (s : List ℕ) (ls : List Listing) (a : ℕ) → at
 freed n floor at t s [] a h e b g q =
     let z : at ≡ a = cc in
     subst (λ (x : ℕ). Freeing s [] at t x) z
-    (record { before = []; after = []; is = refl; low = tt; high = tt; front = bytes-none (take at s); back = shelved n floor at s [] e b g .whole; inside = h })
+    (record { before = []; after = []; is = refl; low = tt; high = tt; front = bytes-none (take at s); back = pieces-joined n floor at s [] e; inside = h })
 freed n floor at t s (l ∷ ms) a h e b g q =
     let i = lists-inv n floor at s l ms e in
     let w = list-walked floor at s l (i .reads) in
@@ -156,7 +157,7 @@ freed n floor at t s (l ∷ ms) a h e b g q =
       low = tt;
       high = (lt, words-high (l .place .term + 1) t s ms (omega arith) (g .3));
       front = bytes-none (take at s);
-      back = shelved n floor at s (l ∷ ms) e b g .whole;
+      back = pieces-joined n floor at s (l ∷ ms) e;
       inside = h;
     }))
     (λ c. split (eqb t (l .place .term))
@@ -290,7 +291,7 @@ packed-some t (p ∷ ps) h = refl
 
 module _ (s : List ℕ) (ls : List Listing) (b : Bytes s) (e : checked s ≡ done ls) (t d : ℕ) (room : ℕ) where
   all-few : few (pieces s ls) ≡ true
-  all-few = rises-few 0 (pieces s ls) (sound-shelved s ls b e .rises)
+  all-few = rises-few 0 (pieces s ls) (sound-rises s ls b e)
 
   set-taken : (w : ℕ) (p : Place) → Taking s ls 0 t p → settled (Set t d w) (pieces s ls) room ≡ placed s (length ls) (Taken p) t (setPost d w (postsOf (blocksAt s (p .at) (p .count)))) room
   unfolding changed there placed

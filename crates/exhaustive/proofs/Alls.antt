@@ -4,7 +4,7 @@ use mathlib.Core.Path.{_≡_, refl, ap, subst, _∙_}
 use mathlib.Core.Option.{some}
 use mathlib.Core.List.{List, _++_}
 use native.Mathlib.Omega.{arith}
-use lib.ListN.{take, drop, length-map}
+use lib.ListN.{length, take, drop, length-map}
 use borrow.Author.Tests.{le-leb, lt-leb}
 use Rattle.model.specs.Limits.{maxTerms, maxK}
 use Rattle.model.specs.Outcome.{Outcome, refused, done}
@@ -26,6 +26,7 @@ use Rattle.rank.specs.Rank.{Hit}
 use Rattle.rank.specs.Match.{anyList}
 use Rattle.prune.specs.Cut as prune
 use Rattle.prune.specs.Prune.{faultAll, exhaustive}
+use Rattle.prune.proofs.Rooms.{Within, then-within, judged-within, exhaustive-within}
 use Rattle.exhaustive.specs.Lists.{listingsOf}
 use Rattle.exhaustive.specs.Exhaustive.{rankAll, Answers}
 use Rattle.exhaustive.specs.Merge.{Mergeable, listsFrom}
@@ -75,6 +76,13 @@ module _ (q s : List ℕ) (rows : ℕ) where
       pub all-ranked : x .k ≤ rows → exhaustive anyList (x .k) (listingsOf (x .terms) ls) ≡ rankAll q s rows
       unfolding rankAll
       all-ranked l = rw (a, w, le-leb (x .k) rows l)
+
+-- it has no more hits than there are rows
+pub rank-within : (q s : List ℕ) (rows : ℕ) → Within length rows (rankAll q s rows)
+unfolding rankAll
+rank-within q s rows =
+    then-within length rows (asked q) _ (λ x. then-within length rows (walk s) _ (λ ls.
+    judged-within length (x .k) rows _ (exhaustive-within anyList (x .k) (listingsOf (x .terms) ls))))
 
 -- ---- the arrays that are handed on
 drop-zeros : (n m : ℕ) → n ≤ m → drop n (zeros m) ≡ zeros (m - n)

@@ -16,8 +16,8 @@ use Rattle.block.specs.Summary.{isSum, sumOf, rightSum}
 use Rattle.shelf.specs.Walk as shelf
 use Rattle.shelf.specs.Walk.{oneSum, sums, bodies, blocksOf, blocksAt, headCount, rightHead, listed, list, onto, lists, walk}
 use Rattle.shelf.specs.Blocks.{blocksLeft, Rests}
-use Rattle.lookup.specs.Gather.{noList, termList, placeAt, termBlocks}
-use Rattle.lookup.proofs.Stands.{walk-size, term-blocks, term-ready}
+use Rattle.lookup.specs.Gather.{placeAt, termBlocks}
+use Rattle.lookup.proofs.Stands.{walk-size, term-has, term-blocks, term-ready}
 use Rattle.query.specs.Query.{Asked, termsOf as askedTerms, weightsOf}
 use Rattle.rank.specs.Match.{some, anyList, holds, scoreOf, heldFrom, matches, hitAt, hitsOf}
 use Rattle.rank.specs.Rank.{Hit}
@@ -81,10 +81,6 @@ lists-chain (suc n) floor at (b ∷ s) = go (list floor at (b ∷ s)) (list-chai
 walk-chain : (s : List ℕ) → AllChained (walk s)
 unfolding walk
 walk-chain s = split (leb (length s) maxShelf) (λ e. rw e (lists-chain 1024 0 0 s)) (λ e. rw e tt)
-
-pub term-has : (P : shelf.Listing → Type 0) → P noList → (t : ℕ) (ls : List shelf.Listing) → All P ls → P (termList t ls)
-term-has P z t [] all = z
-term-has P z t (l ∷ ls) all = split (eqb (l .place .term) t) (λ b. rw b (all .0)) (λ b. rw b (term-has P z t ls (all .1)))
 
 -- ---- a term's list
 module _ (s : List ℕ) (ls : List shelf.Listing) (e : walk s ≡ done ls) (t : ℕ) where

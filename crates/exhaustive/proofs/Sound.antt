@@ -1,27 +1,27 @@
 -- On a sound shelf an accepted query with rows enough gets the ranking: the first k matches of its lists' postings. Assumes nothing.
 use Prim.Native.Nat.{ℕ, _≤_}
-use mathlib.Core.Path.{_≡_, refl, ap, _∙_}
+use mathlib.Core.Path.{_≡_, refl}
 use mathlib.Core.Option.{none}
 use mathlib.Core.List.{List, [], _∷_, map}
 use native.Mathlib.Omega.{arith}
 use borrow.Author.Tests.{le-leb}
-use Rattle.model.specs.Outcome.{Outcome, refused, done, andThen}
+use Rattle.model.specs.Outcome.{done}
 use Rattle.model.specs.Runs.{All}
 use Rattle.model.proofs.Lists.{split}
 use Rattle.block.specs.Body.{rightBody}
 use Rattle.block.proofs.Contents.{right-run}
 use Rattle.shelf.specs.Walk as shelf
-use Rattle.shelf.specs.Check.{badBody, orElse, badLists, verdict, checked}
-use Rattle.lookup.specs.Gather.{termBlocks}
-use Rattle.shelf.specs.declared.check.BadRead.{BadRead}
+use Rattle.shelf.specs.Check.{badBody, badLists, checked}
 use Rattle.shelf.specs.declared.check.BadRead.the-variants.{BadAt, NoBad}
+use Rattle.shelf.proofs.Sounds.{or-none, sound-walk}
+use Rattle.lookup.specs.Gather.{termBlocks}
+use Rattle.lookup.proofs.Stands.{term-has}
 use Rattle.query.specs.Query.{Asked, Question, asked}
 use Rattle.rank.specs.Rank.{ranking}
 use Rattle.rank.specs.Match.{Term, anyList, hitsOf}
 use Rattle.prune.specs.Prune.{postsOf, termsOf, faultIn, faultAll}
 use Rattle.exhaustive.specs.Lists.{blockOf, listingsOf}
 use Rattle.exhaustive.specs.Exhaustive.{rankAll}
-use Rattle.exhaustive.proofs.Founds.{term-has}
 
 -- a term that is asked, with its list's postings
 abbrev pub termOn : List shelf.Listing → Asked → Term
@@ -34,10 +34,6 @@ right-blocks (b ∷ bs) e =
     (λ r. let ih = right-blocks bs (rw r at e) in rw (r, right-run (b .sum) (b .body) r .1) (rw (ih .0), ih .1))
     (λ r. let f : BadAt (b .bodyAt) ≡ NoBad = rw r at e in let z : _≡_ {A = ℕ} 0 1 = cc in absurd (omega arith))
 
-or-none : (x y : BadRead) → orElse x y ≡ NoBad → (x ≡ NoBad) × (y ≡ NoBad)
-or-none (BadAt o) y e = let z : _≡_ {A = ℕ} 0 1 = cc in absurd (omega arith)
-or-none NoBad y e = (refl, e)
-
 all-right : (ls : List shelf.Listing) → badLists ls ≡ NoBad → All (λ (l : shelf.Listing). badBody (l .blocks) ≡ NoBad) ls
 all-right [] e = tt
 all-right (l ∷ ls) e = let o = or-none (badBody (l .blocks)) (badLists ls) e in (o .0, all-right ls (o .1))
@@ -45,24 +41,13 @@ all-right (l ∷ ls) e = let o = or-none (badBody (l .blocks)) (badLists ls) e i
 term-right : (ls : List shelf.Listing) → badLists ls ≡ NoBad → (t : ℕ) → badBody (termBlocks t ls) ≡ NoBad
 term-right ls e t = term-has (λ (l : shelf.Listing). badBody (l .blocks) ≡ NoBad) refl t ls (all-right ls e)
 
-lists-right : (ls : List shelf.Listing) → badLists ls ≡ NoBad → (xs : List Asked) → (termsOf (listingsOf xs ls) ≡ map (termOn ls) xs) × (faultAll (listingsOf xs ls) ≡ none)
+-- the query's lists have the postings that the shelf holds for their terms, and no fault
+pub lists-right : (ls : List shelf.Listing) → badLists ls ≡ NoBad → (xs : List Asked) → (termsOf (listingsOf xs ls) ≡ map (termOn ls) xs) × (faultAll (listingsOf xs ls) ≡ none)
 lists-right ls e [] = (refl, refl)
 lists-right ls e (x ∷ xs) =
     let r = right-blocks (termBlocks (x .term) ls) (term-right ls e (x .term)) in
     let ih = lists-right ls e xs in
     (rw (r .0, ih .0), rw (r .1, ih .1))
-
-verdict-done : (ls ms : List shelf.Listing) (x : BadRead) → verdict ls x ≡ done ms → (x ≡ NoBad) × (ls ≡ ms)
-verdict-done ls ms (BadAt o) e = let z : _≡_ {A = ℕ} 0 1 = cc in absurd (omega arith)
-verdict-done ls ms NoBad e = (refl, (cc))
-
-pub sound-walk : (s : List ℕ) (ls : List shelf.Listing) → checked s ≡ done ls → (shelf.walk s ≡ done ls) × (badLists ls ≡ NoBad)
-unfolding checked
-sound-walk s ls e = go (shelf.walk s) refl e
-  where
-    go : (r : Outcome (List shelf.Listing)) → shelf.walk s ≡ r → andThen r (λ ms. verdict ms (badLists ms)) ≡ done ls → (shelf.walk s ≡ done ls) × (badLists ls ≡ NoBad)
-    go (refused n o) w q = let z : _≡_ {A = ℕ} 0 1 = cc in absurd (omega arith)
-    go (done ms) w q = let v = verdict-done ms ls (badLists ms) q in (w ∙ ap done (v .1), rw (v .1) at (v .0))
 
 pub sound-ranking : (q s : List ℕ) (rows : ℕ) (x : Question) (ls : List shelf.Listing) → checked s ≡ done ls → asked q ≡ done x → x .k ≤ rows
     → rankAll q s rows ≡ done (ranking (x .k) (hitsOf anyList (map (termOn ls) (x .terms))))

@@ -8,13 +8,14 @@ use lib.ListN.{length, set, take, drop, getD, length-append, length-drop, length
 use lib.Dec.{leb}
 use lib.Seq.{take-all, take-take}
 use borrow.Author.Tests.{leb-true, leb-false}
-use Rattle.model.specs.Outcome.{Outcome}
+use Rattle.model.specs.Outcome.{Outcome, refused, done}
 use Rattle.model.specs.Post.{postings}
 use Rattle.model.proofs.Lists.{split}
 use Rattle.model.proofs.Posts.{count-of}
 use Rattle.rank.specs.Rank as rank
 use Rattle.rank.specs.Keep.{keptOf}
 use Rattle.rank.specs.declared.keep.Kept.{Kept}
+use Rattle.prune.proofs.Rooms.{Within}
 use Rattle.exhaustive.specs.Exhaustive.{paperOf, noHits}
 use Rattle.exhaustive.specs.declared.all.Verdict.{Verdict}
 use Rattle.exhaustive.specs.declared.all.Verdict.the-variants.{Done, Refused}
@@ -85,8 +86,14 @@ told-hits : (v : Verdict) (t : Kept) → Cleared v t → keptOf t ≡ hitsOf (pa
 told-hits Done t c = refl
 told-hits (Refused n at) t c = ap keptOf (c n at refl)
 
-pub tells : (o : Outcome (List rank.Hit)) (m : ℕ) (v : Verdict) (t : Kept) (n at c : ℕ) → paperOf v (keptOf t) ≡ o → Cleared v t → length (hitsOf o) ≤ m → n ≡ numberIn v → at ≡ offsetIn v → Counts t m c → Tells o m n at c t
-tells o m v t n at c e z le f g h =
+-- a ranking within the rows has a row for each hit
+few-hits : (o : Outcome (List rank.Hit)) (m : ℕ) → Within length m o → length (hitsOf o) ≤ m
+few-hits (refused n at) m w = omega arith
+few-hits (done hs) m w = w
+
+pub tells : (o : Outcome (List rank.Hit)) (m : ℕ) (v : Verdict) (t : Kept) (n at c : ℕ) → paperOf v (keptOf t) ≡ o → Cleared v t → Within length m o → n ≡ numberIn v → at ≡ offsetIn v → Counts t m c → Tells o m n at c t
+tells o m v t n at c e z w f g h =
+    let le = few-hits o m w in
     let k : keptOf t ≡ hitsOf o = told-hits v t z ∙ ap hitsOf e in
     let l : length (keptOf t) ≡ length (hitsOf o) = ap length k in
     record {

@@ -2,5 +2,4 @@
 pub mod Parts
 pub mod Views
 pub mod Hits
-pub mod Rooms
 pub mod Fills

@@ -1,31 +1,12 @@
--- The paper's example M1, by computation: its whole output is the text of its hits and its book, and its input is split past its query. Assumes nothing.
+-- By computation: where the paper's input of M1 and two others are split, and what a refusal prints. Assumes nothing.
 use mathlib.Core.Path.{_≡_, refl}
 use Prim.Native.Nat.{ℕ}
 use mathlib.Core.List.{List, [], _∷_, _++_}
 use Rattle.wire.specs.Number.{num}
 use Rattle.wire.specs.Field.{whole, fieldLen}
 use Rattle.lines.specs.Split.{ofQuery, sizeIn, querySize}
-use Prim.Native.String.{String}
-use Rattle.model.specs.Outcome.{refused, done}
-use Rattle.model.specs.Post.{post}
-use Rattle.lines.specs.Text.{codes, digits, decimal, numbers, line, hitLines, intervalLines, Shown, text}
-
-pub m1 : Shown
-m1 = record {
-  hits = post 4 11 ∷ [];
-  firsts = 1 ∷ 2 ∷ 4 ∷ 5 ∷ 7 ∷ 9 ∷ 10 ∷ [];
-  ceilings = 0 ∷ 5 ∷ 13 ∷ 8 ∷ 0 ∷ 1 ∷ 0 ∷ [];
-  marks = 0 ∷ 1 ∷ 1 ∷ 0 ∷ 0 ∷ 0 ∷ 0 ∷ [];
-  opened = 2;
-  all = 3;
-}
-
-pub printed : String
-printed = "H 1 4 11\nI 1 1 0 skipped\nI 2 3 5 opened\nI 4 4 13 opened\nI 5 6 8 skipped\nI 7 8 0 skipped\nI 9 9 1 skipped\nI 10 16777215 0 skipped\nB 2 3\n"
-
-pub m1-printed : text (done m1) ≡ codes printed
-unfolding digits decimal numbers line hitLines intervalLines m1 printed
-m1-printed = refl
+use Rattle.model.specs.Outcome.{refused}
+use Rattle.lines.specs.Text.{codes, digits, decimal, numbers, line, text}
 
 -- "Query `20 0001 01`, `21 0005 00000007 01`, `21 0005 00000009 02`." It is 20 bytes, and what comes past it is the shelf
 pub k-field : List ℕ

@@ -11,4 +11,3 @@ pub mod WritesBack
 pub mod Shelves
 pub mod Pieces
 pub mod ReadsBack
-pub mod Marked

@@ -12,11 +12,11 @@ use Rattle.model.specs.Outcome.{Outcome, refused, done, andThen}
 use Rattle.model.specs.Post.{Post, postings}
 use Rattle.model.proofs.Lists.{split}
 use Rattle.model.proofs.Posts.{count-of}
-use Rattle.shelf.specs.Walk.{Listing, walk}
-use Rattle.shelf.specs.Check.{badBody, orElse, badLists, verdict, checked}
+use Rattle.shelf.specs.Walk.{Listing}
+use Rattle.shelf.specs.Check.{badBody, badLists, checked}
+use Rattle.shelf.proofs.Sounds.{or-none, sound-walk}
 use Rattle.lookup.specs.Find.{findOf, found}
-use Rattle.shelf.specs.declared.check.BadRead.{BadRead}
-use Rattle.shelf.specs.declared.check.BadRead.the-variants.{BadAt, NoBad}
+use Rattle.shelf.specs.declared.check.BadRead.the-variants.{NoBad}
 use Rattle.list.specs.Read.{inRoom, readBlocks, readList}
 use Rattle.list.specs.Write.{Word, Words, listBytes, writing, wordsOf, writeList}
 use Rattle.list.proofs.Accepted.{written-accepted}
@@ -28,10 +28,6 @@ abbrev pub findWord : ℕ → List Word → Outcome (List Post)
 findWord t [] = refused 12 0
 findWord t (w ∷ ws) = cond (eqb (w .term) t) (done (w .posts)) (findWord t ws)
 
-or-none : (x y : BadRead) → orElse x y ≡ NoBad → (x ≡ NoBad) × (y ≡ NoBad)
-or-none (BadAt o) y e = let z : _≡_ {A = ℕ} 0 1 = cc in absurd (omega arith)
-or-none NoBad y e = (refl, e)
-
 find-words : (t d w : ℕ) (ls : List Listing) → badLists ls ≡ NoBad → andThen (findOf t ls) (λ l. readBlocks (l .blocks) d w) ≡ andThen (findWord t (wordsOf ls)) (inRoom d w)
 find-words t d w [] e = refl
 find-words t d w (l ∷ ls) e =
@@ -40,17 +36,8 @@ find-words t d w (l ∷ ls) e =
 
 -- on a sound shelf the reader gives what the shelf holds for the term
 pub sound-read : (s : List ℕ) (ls : List Listing) (t d w : ℕ) → checked s ≡ done ls → readList t s d w ≡ andThen (findWord t (wordsOf ls)) (inRoom d w)
-unfolding checked readList found
-sound-read s ls t d w e = go (walk s) e
-  where
-    judge : (ms : List Listing) (x : BadRead) → badLists ms ≡ x → verdict ms x ≡ done ls → andThen (findOf t ms) (λ l. readBlocks (l .blocks) d w) ≡ andThen (findWord t (wordsOf ls)) (inRoom d w)
-    judge ms (BadAt o) b q = let z : _≡_ {A = ℕ} 0 1 = cc in absurd (omega arith)
-    judge ms NoBad b q = let same : ms ≡ ls = cc in find-words t d w ms b ∙ rw same
-
-    go : (r : Outcome (List Listing)) → andThen r (λ ms. verdict ms (badLists ms)) ≡ done ls →
-        andThen (andThen r (λ ms. findOf t ms)) (λ l. readBlocks (l .blocks) d w) ≡ andThen (findWord t (wordsOf ls)) (inRoom d w)
-    go (refused n o) q = let z : _≡_ {A = ℕ} 0 1 = cc in absurd (omega arith)
-    go (done ms) q = judge ms (badLists ms) refl q
+unfolding readList found
+sound-read s ls t d w e = let k = sound-walk s ls e in rw (k .0) (find-words t d w ls (k .1))
 
 -- one writing of some words holds each of them
 pub writing-read : (ws : List Word) (t d w : ℕ) → Words 0 ws → length ws ≤ maxLists → length (writing ws) ≤ maxShelf → readList t (writing ws) d w ≡ andThen (findWord t ws) (inRoom d w)

@@ -3,17 +3,16 @@
 use Prim.Native.Nat.{ℕ, zero, suc, _+_, _-_, _≤_}
 use mathlib.Core.Path.{_≡_, refl, ap}
 use mathlib.Core.List.{List, [], _∷_}
-use native.Mathlib.Omega.{arith}
-use lib.Dec.{leb}
 use lib.ListN.{length, drop}
 use Rattle.model.specs.Limits.{maxLists, maxShelf}
 use Rattle.model.specs.Outcome.{Outcome, refused, done, andThen}
 use Rattle.model.specs.Runs.{All}
-use Rattle.model.proofs.Lists.{split, Bytes, bytes-drop}
-use Rattle.shelf.specs.Walk.{Listing, list, onto, lists, walk}
-use Rattle.shelf.specs.Check.{badBody, orElse, badLists, verdict, checked}
-use Rattle.shelf.specs.declared.check.BadRead.{BadRead}
-use Rattle.shelf.specs.declared.check.BadRead.the-variants.{BadAt, NoBad}
+use Rattle.model.proofs.Lists.{Bytes, bytes-drop}
+use Rattle.shelf.specs.Walk.{Listing, list, onto, lists}
+use Rattle.shelf.specs.Check.{badBody, badLists, checked}
+use Rattle.shelf.specs.declared.check.BadRead.the-variants.{NoBad}
+use Rattle.shelf.proofs.Sounds.{or-none, sound-walk}
+use Rattle.lookup.proofs.Stands.{walk-lists}
 use Rattle.list.specs.Write.{listBytes, Word, writing, Words, wordsOf, Full}
 use Rattle.list.proofs.Writes.{writtenFrom, written-posts, written-sound}
 use Rattle.list.proofs.Canonical.{list-only}
@@ -34,10 +33,6 @@ pub writing-holds : (ws : List Word) → Words 0 ws → length ws ≤ maxLists �
 writing-holds ws ok few small = rw (written-sound ws ok few small) (ap done (words-written 0 0 ws ok))
 
 -- ---- a sound shelf
-
-none-bad : (a b : BadRead) → orElse a b ≡ NoBad → (a ≡ NoBad) × (b ≡ NoBad)
-none-bad NoBad b e = (refl, e)
-none-bad (BadAt o) b e = let z : _≡_ {A = ℕ} 0 1 = cc in absurd (omega arith)
 
 abbrev Packed : List Listing → Type 0
 Packed ls = All (λ (l : Listing). Full (l .blocks)) ls
@@ -76,7 +71,7 @@ whole-if (suc n) floor at (b ∷ s) h =
   where
     more : (l : Listing) → list floor at (b ∷ s) ≡ done l → (r : Outcome (List Listing)) → WholeIf (l .place .term + 1) (drop (l .place .next - at) (b ∷ s)) r → WholeIf floor (b ∷ s) (onto l r)
     more l e (refused k o) w = tt
-    more l e (done ls) w = λ f. let g = none-bad (badBody (l .blocks)) (badLists ls) f in whole-cons floor at (b ∷ s) l ls h e (g .0) (w (g .1))
+    more l e (done ls) w = λ f. let g = or-none (badBody (l .blocks)) (badLists ls) f in whole-cons floor at (b ∷ s) l ls h e (g .0) (w (g .1))
 
     go : (r : Outcome Listing) → list floor at (b ∷ s) ≡ r →
         ((l : Listing) → WholeIf (l .place .term + 1) (drop (l .place .next - at) (b ∷ s)) (lists n (l .place .term + 1) (l .place .next) (drop (l .place .next - at) (b ∷ s)))) →
@@ -84,28 +79,12 @@ whole-if (suc n) floor at (b ∷ s) h =
     go (refused k o) e ih = tt
     go (done l) e ih = more l e (lists n (l .place .term + 1) (l .place .next) (drop (l .place .next - at) (b ∷ s))) (ih l)
 
-abbrev SoundIf : List ℕ → Outcome (List Listing) → Type 0
-SoundIf s (refused n o) = Unit {0}
-SoundIf s (done ls) = Whole 0 s ls
-
-sound-if : (s : List ℕ) → Bytes s → SoundIf s (checked s)
-unfolding checked walk
-sound-if s h =
-    split (leb (length s) 1048576)
-    (λ t. rw t (go (lists 1024 0 0 s) (whole-if 1024 0 0 s h)))
-    (λ t. rw t tt)
-  where
-    judge : (ls : List Listing) (r : BadRead) → badLists ls ≡ r → (badLists ls ≡ NoBad → Whole 0 s ls) → SoundIf s (verdict ls r)
-    judge ls (BadAt o) e w = tt
-    judge ls NoBad e w = w e
-
-    go : (r : Outcome (List Listing)) → WholeIf 0 s r → SoundIf s (andThen r (λ ls. verdict ls (badLists ls)))
-    go (refused k o) w = tt
-    go (done ls) w = judge ls (badLists ls) refl w
-
 module _ (s : List ℕ) (ls : List Listing) (h : Bytes s) (e : checked s ≡ done ls) where
   sound : Whole 0 s ls
-  sound = rw e at (sound-if s h)
+  sound =
+      let w = sound-walk s ls e in
+      let whole : badLists ls ≡ NoBad → Whole 0 s ls = rw (walk-lists s ls (w .0)) at (whole-if maxLists 0 0 s h) in
+      whole (w .1)
 
   -- the lists of a sound shelf may be written
   pub sound-words : Words 0 (wordsOf ls)

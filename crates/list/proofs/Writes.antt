@@ -305,13 +305,13 @@ abbrev pub writtenFrom : ℕ → List Word → List Listing
 writtenFrom at [] = []
 writtenFrom at (w ∷ ws) = written (w .term) at (packed perList (w .posts)) ∷ writtenFrom (at + length (listBytes (w .term) (w .posts))) ws
 
-pub some-more : (n floor at : ℕ) (s : List ℕ) → 0 < length s →
+some-more : (n floor at : ℕ) (s : List ℕ) → 0 < length s →
     lists (suc n) floor at s ≡ andThen (list floor at s) (λ l. onto l (lists n (l .place .term + 1) (l .place .next) (drop (l .place .next - at) s)))
 unfolding lists
 some-more n floor at [] h = absurd (omega arith)
 some-more n floor at (b ∷ s) h = refl
 
-pub none-more : (n floor at : ℕ) → lists n floor at [] ≡ done []
+none-more : (n floor at : ℕ) → lists n floor at [] ≡ done []
 unfolding lists
 none-more zero floor at = refl
 none-more (suc n) floor at = refl

@@ -4,14 +4,14 @@ use native.Mathlib.Omega.{arith}
 use native.Mathlib.Nat.{le-refl}
 use mathlib.Core.Path.{_≡_, refl, sym, subst, _∙_}
 use mathlib.Core.List.{List, [], _∷_}
-use borrow.Author.Tests.{leb-true}
+use borrow.Author.Tests.{leb-true, le-leb, eqb-true}
 use lib.Dec.{leb, eqb}
 use lib.ListN.{length}
-use Rattle.model.specs.Limits.{perList, maxShelf}
+use Rattle.model.specs.Limits.{perList, maxLists, maxShelf}
 use Rattle.model.specs.Outcome.{Outcome, refused, done, andThen}
 use Rattle.model.specs.Runs.{All}
 use Rattle.model.proofs.Lists.{split, All-map}
-use Rattle.shelf.specs.Walk.{Listing, blocksOf, blocksAt, onto, walk}
+use Rattle.shelf.specs.Walk.{Listing, blocksOf, blocksAt, onto, lists, walk}
 use Rattle.shelf.specs.Answers.{Ready}
 use Rattle.shelf.specs.Cursor.{start, walkStep, listsAt, listingAt}
 use Rattle.lookup.specs.Find.{findOf, found}
@@ -57,9 +57,13 @@ module _ (s : List ℕ) (ls : List Listing) (e : walk s ≡ done ls) where
       (λ b. leb-true _ _ b)
       (λ b. let f : refused 6 0 ≡ done ls = rw b at e in let z : _≡_ {A = ℕ} 0 1 = cc in absurd (omega arith))
 
+  pub walk-lists : lists maxLists 0 0 s ≡ done ls
+  unfolding walk
+  walk-lists = rw (le-leb (length s) maxShelf walk-size) at e
+
 -- ---- the list of a term
 
-term-has : (P : Listing → Type 0) → P noList → (t : ℕ) (ls : List Listing) → All P ls → P (termList t ls)
+pub term-has : (P : Listing → Type 0) → P noList → (t : ℕ) (ls : List Listing) → All P ls → P (termList t ls)
 term-has P none t [] all = none
 term-has P none t (l ∷ ls) all =
     split (eqb (l .place .term) t) (λ b. rw b (all .0)) (λ b. rw b (term-has P none t ls (all .1)))
@@ -87,11 +91,12 @@ module _ (s : List ℕ) (ls : List Listing) (e : walk s ≡ done ls) (t : ℕ) w
 
 -- ---- a list that was found
 
-find-has : (P : Listing → Type 0) (t : ℕ) (ls : List Listing) (l : Listing) → findOf t ls ≡ done l → All P ls → P l
+-- it is of the term, and has what all lists have
+pub find-has : (P : Listing → Type 0) (t : ℕ) (ls : List Listing) (l : Listing) → findOf t ls ≡ done l → All P ls → P l × (l .place .term ≡ t)
 find-has P t [] l e all = let z : _≡_ {A = ℕ} 0 1 = cc in absurd (omega arith)
 find-has P t (m ∷ ls) l e all =
     split (eqb (m .place .term) t)
-    (λ b. let f : done m ≡ done l = rw b at e in let q : m ≡ l = cc in subst (λ (x : Listing). P x) q (all .0))
+    (λ b. let f : done m ≡ done l = rw b at e in let q : m ≡ l = cc in subst (λ (x : Listing). P x × (x .place .term ≡ t)) q (all .0, eqb-true (m .place .term) t b))
     (λ b. find-has P t ls l (rw b at e) (all .1))
 
 pub found-stands : (t : ℕ) (s : List ℕ) (l : Listing) → found t s ≡ done l → Standing s l
@@ -100,4 +105,4 @@ found-stands t s l e = go (walk s) refl e
   where
     go : (r : Outcome (List Listing)) → walk s ≡ r → andThen r (λ ls. findOf t ls) ≡ done l → Standing s l
     go (refused n o) w q = let z : _≡_ {A = ℕ} 0 1 = cc in absurd (omega arith)
-    go (done ls) w q = find-has (λ (x : Listing). Standing s x) t ls l q (walk-stands s ls w)
+    go (done ls) w q = find-has (λ (x : Listing). Standing s x) t ls l q (walk-stands s ls w) .0

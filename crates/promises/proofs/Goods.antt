@@ -2,7 +2,7 @@
 -- its postings keep to its summary. Assumes nothing.
 use Prim.Native.Nat.{ℕ, _+_, _-_, _≤_, _<_, max}
 use native.Mathlib.Omega.{arith}
-use mathlib.Core.Path.{_≡_, refl, ap, _∙_}
+use mathlib.Core.Path.{_≡_, ap, _∙_}
 use mathlib.Core.Bool.{true}
 use mathlib.Core.List.{List, [], _∷_, map}
 use lib.ListN.{length, length-map}
@@ -14,24 +14,23 @@ use Rattle.model.proofs.Posts.{rising-last, last-any}
 use Rattle.block.specs.Summary.{rightSum}
 use Rattle.block.specs.Body.{rightBody, bodyRun}
 use Rattle.block.proofs.Summaries.{top-above}
-use Rattle.block.proofs.Contents.{run-all, right-run, right-body}
+use Rattle.block.proofs.Contents.{run-all, right-body}
 use Rattle.shelf.specs.Walk as shelf
 use Rattle.shelf.specs.Walk.{blocksAt}
 use Rattle.shelf.specs.Blocks.{readingOf, blocksLeft}
 use Rattle.lookup.specs.Gather.{termList, termBlocks}
 use Rattle.shelf.proofs.Sounds as sounds
-use Rattle.shelf.proofs.Sounds.{sound-good}
-use Rattle.lookup.proofs.Stands.{Standing, walk-stands}
+use Rattle.shelf.proofs.Sounds.{sound-walk, sound-good}
+use Rattle.lookup.proofs.Stands.{Standing, walk-stands, term-has}
 use Rattle.lookup.proofs.Tables.{blocks-length}
 use Rattle.query.specs.Query.{Asked, Question}
 use Rattle.query.proofs.Accepted.{accepted-in-range}
 use Rattle.rank.proofs.Withins.{rising-above}
-use Rattle.prune.specs.Cut.{Block, Listing}
-use Rattle.prune.specs.Prune.{postsOf, termsOf, Right, Good, GoodList}
-use Rattle.exhaustive.specs.Lists.{blockOf, listingOf, listingsOf}
+use Rattle.prune.specs.Cut.{Listing}
+use Rattle.prune.specs.Prune.{termsOf, Right, Good, GoodList}
+use Rattle.exhaustive.specs.Lists.{blockOf, listingOf}
 use Rattle.exhaustive.proofs.Chains.{sum-facts, left-low}
-use Rattle.exhaustive.proofs.Founds.{term-has}
-use Rattle.exhaustive.proofs.Sound.{termOn, sound-walk}
+use Rattle.exhaustive.proofs.Sound.{termOn, lists-right}
 use Rattle.promises.specs.Served.{Asks, listsFor}
 
 -- ---- the postings of a right body keep to its summary
@@ -77,16 +76,10 @@ blocks-good : (prev : ℕ) (bs : List shelf.Block) → sounds.Good prev bs → A
 blocks-good prev [] g low = tt
 blocks-good prev (b ∷ bs) g low = (block-right prev b (g .0) (g .1) (g .2) (low .0), blocks-good (b .sum .greatest) bs (g .3) (low .1))
 
--- no body is wrong, so all postings are there
-blocks-posts : (prev : ℕ) (bs : List shelf.Block) → sounds.Good prev bs → postsOf (map blockOf bs) ≡ shelf.postsOf bs
-blocks-posts prev [] g = refl
-blocks-posts prev (b ∷ bs) g = rw (g .1, right-run (b .sum) (b .body) (g .1) .1, blocks-posts (b .sum .greatest) bs (g .3))
-
--- what is known of a list: good blocks, at most 64, with all their postings
+-- what is known of a list: good blocks, at most 64
 pub record Known (l : shelf.Listing) : Type 0 where
   pub good : Good maxDocid 0 (map blockOf (l .blocks))
   pub few : length (l .blocks) ≤ perList
-  pub posts : postsOf (map blockOf (l .blocks)) ≡ shelf.postsOf (l .blocks)
 
 lists-known : (s : List ℕ) (floor : ℕ) (ls : List shelf.Listing) → Bytes s → sounds.Listed floor ls → All (Standing s) ls → All Known ls
 lists-known s floor [] h g w = tt
@@ -94,7 +87,6 @@ lists-known s floor (l ∷ ls) h g w =
     let known : Known l = record {
       good = blocks-good 0 (l .blocks) (g .1) (low-blocks s l h (w .0));
       few = omega (arith, w .0 .ready .few, ap length (w .0 .blocks), blocks-length s (l .place .at) (l .place .count));
-      posts = blocks-posts 0 (l .blocks) (g .1);
     } in
     (known, lists-known s (l .place .term + 1) ls h (g .2) (w .1))
 
@@ -103,7 +95,7 @@ lists-known s floor (l ∷ ls) h g w =
 module _ (q s : List ℕ) (x : Question) (ls : List shelf.Listing) (a : Asks q s x ls) where
   term-known : (t : ℕ) → Known (termList t ls)
   term-known t =
-      term-has Known (record { good = tt; few = omega arith; posts = refl }) t ls
+      term-has Known (record { good = tt; few = omega arith }) t ls
       (lists-known s 0 ls (a .shelf-bytes) (sound-good s ls (a .shelf-bytes) (a .sound)) (walk-stands s ls (sound-walk s ls (a .sound) .0)))
 
   pub good-lists : All (GoodList maxDocid) (listsFor x ls)
@@ -122,8 +114,4 @@ module _ (q s : List ℕ) (x : Question) (ls : List shelf.Listing) (a : Asks q s
 
   -- each with the postings that the shelf holds for its term
   pub terms-held : termsOf (listsFor x ls) ≡ map (termOn ls) (x .terms)
-  terms-held = go (x .terms)
-    where
-      go : (xs : List Asked) → termsOf (listingsOf xs ls) ≡ map (termOn ls) xs
-      go [] = refl
-      go (y ∷ xs) = rw (term-known (y .term) .posts, go xs)
+  terms-held = lists-right ls (sound-walk s ls (a .sound) .1) (x .terms) .0

@@ -8,13 +8,14 @@ use borrow.Author.Tests.{le-leb}
 use Rattle.model.specs.Limits.{maxDocid}
 use Rattle.model.specs.Outcome.{Outcome, done}
 use Rattle.shelf.specs.Walk.{Listing}
+use Rattle.shelf.proofs.Sounds.{sound-walk}
 use Rattle.query.specs.Query.{Question}
 use Rattle.rank.specs.Rank.{ranking}
 use Rattle.rank.specs.Match.{anyList}
 use Rattle.prune.specs.Prune.{never}
 use Rattle.prune.proofs.Prunes.{pruned-exhaustive, never-barring}
 use Rattle.exhaustive.specs.Exhaustive.{rankAll}
-use Rattle.exhaustive.proofs.Sound.{sound-walk, sound-ranking}
+use Rattle.exhaustive.proofs.Sound.{sound-ranking}
 use Rattle.exhaustive.proofs.Alls.{all-ranked}
 use Rattle.pruned.specs.Pruned.{Sought, Answer, sought, answer, searched}
 use Rattle.promises.specs.Served.{listsFor, intervalCount, matchesFor, Asks, Room}

@@ -3,8 +3,7 @@ use Prim.Native.Nat.{ℕ, _+_, _-_, _≤_, min}
 use native.Mathlib.Omega.{arith}
 use mathlib.Core.Path.{_≡_, sym, subst}
 use mathlib.Core.List.{List, [], _∷_}
-use borrow.Author.Tests.{eqb-true}
-use lib.Dec.{leb, eqb}
+use lib.Dec.{leb}
 use lib.ListN.{length, drop, length-drop}
 use lib.Seq.{length-take-le}
 use Rattle.model.specs.Outcome.{refused, done}
@@ -16,11 +15,12 @@ use Rattle.shelf.specs.Check.{badBody, badLists, checked}
 use Rattle.lookup.specs.Find.{findOf, found}
 use Rattle.shelf.specs.declared.check.BadRead.the-variants.{NoBad}
 use Rattle.shelf.proofs.Walks.{list-walked}
+use Rattle.shelf.proofs.Sounds.{or-none, sound-walk}
+use Rattle.lookup.proofs.Stands.{find-has}
 use Rattle.list.specs.Read.{readBlocks, readList}
 use Rattle.list.specs.Write.{Full, writeList}
 use Rattle.list.proofs.WritesBack.{written-back}
-use Rattle.change.proofs.Pieces.{or-none, lists-inv, checked-sound}
-use Rattle.exhaustive.proofs.Sound.{sound-walk}
+use Rattle.change.proofs.Pieces.{lists-inv, checked-sound}
 use Rattle.promises.specs.Served.{bytesOf}
 
 -- a list as it was read, where it stands
@@ -38,13 +38,6 @@ all-stand n floor at s (l ∷ ls) e b =
     let o = or-none (badBody (l .blocks)) (badLists ls) b in
     (record { floor = floor; reads = subst (λ (n : ℕ). list floor n (drop n s) ≡ done l) (sym (w .start)) (i .reads); right = o .0; within = w .within }, all-stand (n - 1) (l .place .term + 1) (l .place .next) s ls (i .left) (o .1))
 
-find-stood : (s : List ℕ) (t : ℕ) (ls : List Listing) (l : Listing) → findOf t ls ≡ done l → All (Stood s) ls → Stood s l × (l .place .term ≡ t)
-find-stood s t [] l e all = let z : _≡_ {A = ℕ} 0 1 = cc in absurd (omega arith)
-find-stood s t (m ∷ ls) l e all =
-    split (eqb (m .place .term) t)
-    (λ b. let f : done m ≡ done l = rw b at e in let q : m ≡ l = cc in subst (λ (x : Listing). Stood s x × (x .place .term ≡ t)) q (all .0, eqb-true (m .place .term) t b))
-    (λ b. find-stood s t ls l (rw b at e) (all .1))
-
 read-posts : (bs : List Block) (d w : ℕ) (ps : List Post) → badBody bs ≡ NoBad → readBlocks bs d w ≡ done ps → postsOf bs ≡ ps
 read-posts bs d w ps b e =
     split (leb (length (postsOf bs)) (min d w))
@@ -53,7 +46,7 @@ read-posts bs d w ps b e =
 
 module _ (s : List ℕ) (ls : List Listing) (h : Bytes s) (e : checked s ≡ done ls) (t : ℕ) (l : Listing) (f : findOf t ls ≡ done l) where
   stood : Stood s l × (l .place .term ≡ t)
-  stood = let o = checked-sound s ls e in find-stood s t ls l f (all-stand 1024 0 0 s ls (o .reads) (o .right))
+  stood = let o = checked-sound s ls e in find-has (Stood s) t ls l f (all-stand 1024 0 0 s ls (o .reads) (o .right))
 
   -- the reader gives the postings of the list that was found
   given : (d w : ℕ) (ps : List Post) → readList t s d w ≡ done ps → postsOf (l .blocks) ≡ ps

@@ -4,7 +4,6 @@ pub mod Parts
 pub mod Searches
 pub mod Goods
 pub mod Prunes
-pub mod Marked
 pub mod Loops
 pub mod Pushes
 pub mod Gathers
@@ -14,3 +13,4 @@ pub mod Wholes
 pub mod Books
 pub mod Loopings
 pub mod Faults
+pub mod Rooms

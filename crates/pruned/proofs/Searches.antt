@@ -1,6 +1,6 @@
 -- The pruned ranker's answer, by what the query's reader, the walk and the rows say. Assumes nothing.
 use Prim.Native.Nat.{ℕ, zero, suc, _+_, _-_, _≤_, _<_}
-use mathlib.Core.Path.{_≡_, refl, sym, ap, _∙_}
+use mathlib.Core.Path.{_≡_, sym, ap, _∙_}
 use mathlib.Core.List.{List, [], _∷_, _++_, map, append-nil, append-assoc}
 use native.Mathlib.Omega.{arith}
 use lib.Dec.{ltb}
@@ -20,14 +20,17 @@ use Rattle.lookup.specs.Table.{Gatherable}
 use Rattle.lookup.specs.declared.gather.Found.{Found}
 use Rattle.lookup.proofs.Terms.{found-gatherable}
 use Rattle.rank.specs.Rank.{Hit}
+use Rattle.rank.specs.Match.{anyList}
 use Rattle.prune.specs.Cut.{Listing, starts, ceilingAt}
+use Rattle.prune.specs.Prune.{never, pruned}
+use Rattle.prune.proofs.Rooms.{Within, within-more, then-within, judged-within, pruned-within}
 use Rattle.exhaustive.specs.Lists.{listingsOf}
 use Rattle.exhaustive.specs.Merge.{listsFrom}
 use Rattle.exhaustive.proofs.Founds.{blanks}
 use Rattle.exhaustive.proofs.Alls.{found-mergeable, found-lists}
 use Rattle.intervals.specs.Blocks.{roomFor}
 use Rattle.intervals.proofs.Blanks.{blank, starts-blank, ceiling-blank, pruned-blank, book-blank, blocks-blank, opened-blank}
-use Rattle.pruned.specs.Pruned.{Answer, front, unlessRefused, answer, searched, Searchable}
+use Rattle.pruned.specs.Pruned.{Answer, Sought, fitting, sought, front, unlessRefused, answer, searched, Searchable}
 use Rattle.pruned.proofs.Endings.{over}
 
 -- ---- a list without blocks changes nothing
@@ -105,3 +108,23 @@ module _ (q s : List ℕ) (rows : ℕ) (fs cs ms : List ℕ) where
       pub searched-lists : x .k ≤ rows → over (x .k) fs cs ms (listingsOf (x .terms) ls) ≡ searched q s rows fs cs ms
       unfolding searched
       searched-lists l = rw (a, w, le-leb (x .k) rows l)
+
+-- ---- it has no more hits than there are rows
+
+abbrev wanted : Sought → ℕ
+wanted x = x .k
+
+answer-within : (rows : ℕ) (o : Outcome Sought) (fs cs ms : List ℕ) → Within wanted rows o → Within length rows (answer o fs cs ms .outcome)
+answer-within rows (refused n a) fs cs ms h = tt
+answer-within rows (done x) fs cs ms h =
+    within-more length (x .k) rows (pruned anyList never maxDocid (x .k) (x .lists)) h (pruned-within anyList never maxDocid (x .k) (x .lists))
+
+fitting-within : (k : ℕ) (ls : List Listing) (a b c : ℕ) → Within wanted k (fitting k ls a b c)
+fitting-within k ls a b c = split (roomFor (length (starts maxDocid ls)) a b c) (λ e. rw e (omega arith)) (λ e. rw e tt)
+
+pub searched-within : (q s : List ℕ) (rows : ℕ) (fs cs ms : List ℕ) → Within length rows (searched q s rows fs cs ms .outcome)
+unfolding searched
+searched-within q s rows fs cs ms =
+    answer-within rows (sought q s rows (length fs) (length cs) (length ms)) fs cs ms
+    (then-within wanted rows (asked q) _ (λ x. then-within wanted rows (walk s) _ (λ ls.
+    judged-within wanted (x .k) rows _ (fitting-within (x .k) (listingsOf (x .terms) ls) (length fs) (length cs) (length ms)))))

@@ -1,7 +1,7 @@
 -- What the lists of a sound shelf hold: terms rise, and the postings of each list rise with scores in range. Assumes nothing.
 use Prim.Native.Nat.{ℕ, zero, suc, _+_, _*_, _-_, _≤_, _<_}
 use native.Mathlib.Omega.{arith}
-use mathlib.Core.Path.{_≡_, refl, subst, _∙_}
+use mathlib.Core.Path.{_≡_, refl, ap, _∙_}
 use mathlib.Core.List.{List, [], _∷_}
 use mathlib.Core.Bool.{true}
 use lib.Dec.{leb}
@@ -10,7 +10,7 @@ use Rattle.model.specs.Outcome.{Outcome, refused, done, andThen}
 use Rattle.model.specs.Post.{Post, Rising, Scored, lastDoc}
 use Rattle.model.proofs.Lists.{split, All-append, Bytes, bytes-drop, bytes-take}
 use Rattle.model.proofs.Posts.{rising-join, last-any}
-use Rattle.wire.specs.Field.{whole, fieldLen, fieldValue}
+use Rattle.wire.specs.Field.{fieldLen, fieldValue}
 use Rattle.block.specs.Summary.{isSum, sumOf, rightSum}
 use Rattle.block.specs.Body.{rightBody}
 use Rattle.block.proofs.Summaries.{right-facts}
@@ -93,7 +93,7 @@ abbrev ListedIf : ℕ → Outcome (List Listing) → Type 0
 ListedIf floor (refused n o) = Unit {0}
 ListedIf floor (done ls) = badLists ls ≡ NoBad → Listed floor ls
 
-or-none : (x y : BadRead) → orElse x y ≡ NoBad → (x ≡ NoBad) × (y ≡ NoBad)
+pub or-none : (x y : BadRead) → orElse x y ≡ NoBad → (x ≡ NoBad) × (y ≡ NoBad)
 or-none (BadAt o) y e = let z : _≡_ {A = ℕ} 0 1 = cc in absurd (omega arith)
 or-none NoBad y e = (refl, e)
 
@@ -126,13 +126,18 @@ verdict-done : (ls ms : List Listing) (x : BadRead) → verdict ls x ≡ done ms
 verdict-done ls ms (BadAt o) e = let z : _≡_ {A = ℕ} 0 1 = cc in absurd (omega arith)
 verdict-done ls ms NoBad e = (refl, (cc))
 
--- on a sound shelf every list is good, in rising term number
-pub sound-good : (s : List ℕ) (ls : List Listing) → Bytes s → checked s ≡ done ls → Listed 0 ls
+-- a sound shelf was walked to its end, and no body is wrong
+pub sound-walk : (s : List ℕ) (ls : List Listing) → checked s ≡ done ls → (walk s ≡ done ls) × (badLists ls ≡ NoBad)
 unfolding checked
-sound-good s ls h e = go (walk s) (walk-good s h) e
+sound-walk s ls e = go (walk s) refl e
   where
-    go : (r : Outcome (List Listing)) → ListedIf 0 r → andThen r (λ ms. verdict ms (badLists ms)) ≡ done ls → Listed 0 ls
-    go (refused n o) g q = let z : _≡_ {A = ℕ} 0 1 = cc in absurd (omega arith)
-    go (done ms) g q =
-        let v = verdict-done ms ls (badLists ms) q in
-        subst (λ (x : List Listing). Listed 0 x) (v .1) (g (v .0))
+    go : (r : Outcome (List Listing)) → walk s ≡ r → andThen r (λ ms. verdict ms (badLists ms)) ≡ done ls → (walk s ≡ done ls) × (badLists ls ≡ NoBad)
+    go (refused n o) w q = let z : _≡_ {A = ℕ} 0 1 = cc in absurd (omega arith)
+    go (done ms) w q = let v = verdict-done ms ls (badLists ms) q in (w ∙ ap done (v .1), rw (v .1) at (v .0))
+
+-- every list of it is good, in rising term number
+pub sound-good : (s : List ℕ) (ls : List Listing) → Bytes s → checked s ≡ done ls → Listed 0 ls
+sound-good s ls h e =
+    let w = sound-walk s ls e in
+    let good : badLists ls ≡ NoBad → Listed 0 ls = rw (w .0) at (walk-good s h) in
+    good (w .1)

@@ -1,7 +1,7 @@
 -- `lent::rows::rank` meets its contract: the ranker's answer in numbers. Assumes nothing.
 use borrow.Author.Needs.{needs}
+use Rattle.exhaustive.proofs.Alls.{rank-within}
 use Rattle.lent.proofs.Hits.{tells}
-use Rattle.lent.proofs.Rooms.{rank-within}
 use Rattle.lent.proofs.rows.rank.Statement.{statement}
 use Rattle.lent.proofs.rows.rank.Tie as tie
 

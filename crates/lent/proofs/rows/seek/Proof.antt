@@ -2,8 +2,8 @@
 use borrow.Author.Needs.{needs}
 use denote.Ref.{now}
 use Rattle.pruned.specs.Pruned.{searched}
+use Rattle.pruned.proofs.Searches.{searched-within}
 use Rattle.lent.proofs.Hits.{tells}
-use Rattle.lent.proofs.Rooms.{searched-within}
 use Rattle.lent.proofs.rows.seek.Statement.{statement}
 use Rattle.lent.proofs.rows.seek.Tie as tie
 
