@@ -4,3 +4,4 @@ pub mod Steps
 pub mod Fillings
 pub mod Bodies
 pub mod Contents
+pub mod Runs

@@ -2,7 +2,7 @@
 use Prim.Native.Nat.{ℕ, suc, _+_, _-_, _^_, _≤_, _<_, max}
 use native.Mathlib.Omega.{arith}
 use mathlib.Core.Path.{_≡_, refl, _∙_}
-use mathlib.Core.Bool.{true, false, _||_}
+use mathlib.Core.Bool.{Bool, true, false, _||_}
 use mathlib.Core.List.{List, [], _∷_, _++_, append-assoc}
 use borrow.Author.Tests.{eqb-true, le-leb, eq-eqb, ne-eqb, lt-ltb, ltb-true}
 use lib.Dec.{leb, ltb, eqb}
@@ -34,29 +34,30 @@ module _ (s : List ℕ) (at : ℕ) where
       let i = field-is 2 s at n e in
       rw (i .0, i .1, ne-eqb n 9 z)
 
-  pub sum-there : (n : ℕ) → fieldAt 2 s at ≡ Whole n → n ≡ 9 → sumAt s at ≡ Sum (sumOf (drop at s))
+  pub sum-there : (n : ℕ) → fieldAt 2 s at ≡ Whole n → n ≡ 9 → sumAt s at ≡ Sum (sumOf false (drop at s))
   unfolding sumAt isSum
   sum-there n e q =
       let i = field-is 2 s at n e in
       rw (i .0, i .1, eq-eqb n 9 q)
 
-  pub sum-numbers : sumOf (drop at s) ≡ record { least = num 3 (drop (at + 3) s); greatest = num 3 (drop (at + 6) s); top = num 2 (drop (at + 9) s); count = num 1 (drop (at + 11) s) }
+  pub sum-numbers : (strip : Bool) →
+      sumOf strip (drop at s) ≡ record { least = num 3 (drop (at + 3) s); greatest = num 3 (drop (at + 6) s); top = num 2 (drop (at + 9) s); count = num 1 (drop (at + 11) s); strip = strip }
   unfolding sumOf
-  sum-numbers = rw (drop-drop 3 at s, drop-drop 6 at s, drop-drop 9 at s, drop-drop 11 at s)
+  sum-numbers strip = rw (drop-drop 3 at s, drop-drop 6 at s, drop-drop 9 at s, drop-drop 11 at s)
 
   -- from what the code found back to what was read
-  pub sum-found : (m : Summary) → sumAt s at ≡ Sum m → (isSum (drop at s) ≡ true) × (sumOf (drop at s) ≡ m)
+  pub sum-found : (m : Summary) → sumAt s at ≡ Sum m → (isSum (drop at s) ≡ true) × (sumOf false (drop at s) ≡ m)
   unfolding sumAt
   sum-found m e =
       split (isSum (drop at s))
-      (λ w. let q : Sum (sumOf (drop at s)) ≡ Sum m = rw w at e in (w, (cc)))
+      (λ w. let q : Sum (sumOf false (drop at s)) ≡ Sum m = rw w at e in (w, (cc)))
       (λ w. let q : NoSum ≡ Sum m = rw w at e in let z : _≡_ {A = ℕ} 0 1 = cc in absurd (omega arith))
 
   pub sum-missing : sumAt s at ≡ NoSum → isSum (drop at s) ≡ false
   unfolding sumAt
   sum-missing e =
       split (isSum (drop at s))
-      (λ w. let q : Sum (sumOf (drop at s)) ≡ NoSum = rw w at e in let z : _≡_ {A = ℕ} 0 1 = cc in absurd (omega arith))
+      (λ w. let q : Sum (sumOf false (drop at s)) ≡ NoSum = rw w at e in let z : _≡_ {A = ℕ} 0 1 = cc in absurd (omega arith))
       (λ w. w)
 
 pub sum-room : (s : List ℕ) → isSum s ≡ true → 12 ≤ length s
@@ -113,7 +114,7 @@ module _ (m : Summary) (r : List ℕ) where
   on : (a n k : ℕ) (v t : List ℕ) → drop a (sumBytes m ++ r) ≡ v ++ t → length v ≡ n → k ≡ a + n → drop k (sumBytes m ++ r) ≡ t
   on a n k v t e l q = rw (q, ← drop-drop n a (sumBytes m ++ r), e) (drop-at v t n l)
 
-  pub sum-of : Fitting m → sumOf (sumBytes m ++ r) ≡ m
+  pub sum-of : Fitting m → sumOf (m .strip) (sumBytes m ++ r) ≡ m
   unfolding sumOf
   sum-of f =
       let a = past-head in
@@ -137,9 +138,9 @@ pub top-above : (m : ℕ) (ps : List Post) → m ≤ topScore m ps
 top-above m [] = omega arith
 top-above m (p ∷ ps) = omega (arith, top-above (max m (p .score)) ps)
 
-pub right-sum : (prev : ℕ) (p : Post) (ps : List Post) → Rising prev (p ∷ ps) → Scored (p ∷ ps) → length (p ∷ ps) ≤ perBlock → rightSum prev (summaryOf (p ∷ ps)) ≡ true
+pub right-sum : (strip : Bool) (prev : ℕ) (p : Post) (ps : List Post) → Rising prev (p ∷ ps) → Scored (p ∷ ps) → length (p ∷ ps) ≤ perBlock → rightSum prev (summaryOf strip (p ∷ ps)) ≡ true
 unfolding rightSum
-right-sum prev p ps h s n =
+right-sum strip prev p ps h s n =
     let l = rising-last (p .doc) ps (h .1) in
     let low : prev < p .doc = h .0 in
     let pos : 0 < topScore (max 0 (p .score)) ps = omega (arith, top-above (max 0 (p .score)) ps, s .0 .0) in

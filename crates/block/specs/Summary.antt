@@ -1,7 +1,7 @@
 -- A block's summary: a field tag 02, length 9. Assumes nothing.
 use Prim.Native.Nat.{ℕ, _+_, _-_}
 use mathlib.Core.List.{List, [], _∷_, _++_}
-use mathlib.Core.Bool.{Bool, cond, _&&_, _||_}
+use mathlib.Core.Bool.{Bool, false, cond, _&&_, _||_}
 use lib.Dec.{leb, ltb, eqb}
 use lib.ListN.{length, drop}
 use Rattle.model.specs.Limits.{perBlock}
@@ -16,16 +16,16 @@ use Rattle.block.specs.declared.summary.SummaryRead.the-variants.{Sum, N
 unfoldable pub isSum : List ℕ → Bool
 isSum s = whole 2 s && eqb (fieldLen s) 9
 
--- "least docid (3), greatest docid (3), greatest score (2), posting count (1)", past the tag and the length
-unfoldable pub sumOf : List ℕ → Summary
-sumOf s = record { least = num 3 (drop 3 s); greatest = num 3 (drop 6 s); top = num 2 (drop 9 s); count = num 1 (drop 11 s) }
+-- "least docid (3), greatest docid (3), greatest score (2), posting count (1)", past the tag and the length; the layout is the body's
+unfoldable pub sumOf : (strip : Bool) → List ℕ → Summary
+sumOf strip s = record { least = num 3 (drop 3 s); greatest = num 3 (drop 6 s); top = num 2 (drop 9 s); count = num 1 (drop 11 s); strip = strip }
 
 unfoldable pub sumBytes : Summary → List ℕ
 sumBytes m = fieldBytes 2 (be 3 (m .least) ++ (be 3 (m .greatest) ++ (be 2 (m .top) ++ be 1 (m .count))))
 
--- the summary at a place
+-- the summary at a place, for the walk, which looks at its numbers alone
 unfoldable pub sumAt : List ℕ → ℕ → SummaryRead
-sumAt s at = cond (isSum (drop at s)) (Sum (sumOf (drop at s))) NoSum
+sumAt s at = cond (isSum (drop at s)) (Sum (sumOf false (drop at s))) NoSum
 
 -- "A summary is wrong if least is 0 or above greatest, greatest score is 0, count is not 1 to 100 or exceeds greatest - least + 1,
 -- count is 1 while least and greatest differ, or least is not above the previous block's greatest." Before a list's first block that is 0,
@@ -36,6 +36,6 @@ rightSum prev m =
     && (leb (m .count) (m .greatest - m .least + 1) && (ltb 1 (m .count) || eqb (m .least) (m .greatest)))))))
 
 -- the summary of some postings
-abbrev pub summaryOf : List Post → Summary
-summaryOf [] = record { least = 0; greatest = 0; top = 0; count = 0 }
-summaryOf (p ∷ ps) = record { least = p .doc; greatest = lastDoc (p .doc) ps; top = topScore 0 (p ∷ ps); count = length (p ∷ ps) }
+abbrev pub summaryOf : (strip : Bool) → List Post → Summary
+summaryOf strip [] = record { least = 0; greatest = 0; top = 0; count = 0; strip = strip }
+summaryOf strip (p ∷ ps) = record { least = p .doc; greatest = lastDoc (p .doc) ps; top = topScore 0 (p ∷ ps); count = length (p ∷ ps); strip = strip }

@@ -9,11 +9,14 @@ use wire::field::FieldRead;
 
 // ---- reading
 
+// What is known of a block before its body is read: the four numbers of its summary; and whether its body is a strip (tag 04), which the
+// body's tag says.
 pub struct Summary {
     pub least: u32,
     pub greatest: u32,
     pub top: u16,
     pub count: u8,
+    pub strip: bool,
 }
 
 // A summary; or no field of its form stands there.
@@ -22,6 +25,7 @@ pub enum SummaryRead {
     NoSum,
 }
 
+// The walk's: it judges the numbers, whatever the layout.
 pub fn summary_at(s: &[u8], at: usize) -> SummaryRead
     ensures { λ r. ⌜ r ≡ sumAt (now (s .entry)) at ⌝ }
 {
@@ -30,22 +34,23 @@ pub fn summary_at(s: &[u8], at: usize) -> SummaryRead
             if n != 9 {
                 return SummaryRead::NoSum;
             }
-            SummaryRead::Sum(summary_in(s, at))
+            SummaryRead::Sum(summary_in(s, at, false))
         }
         FieldRead::Missing => SummaryRead::NoSum,
     }
 }
 
-// The numbers of a summary that is known to stand there.
-pub fn summary_in(s: &[u8], at: usize) -> Summary
+// The numbers of a summary that is known to stand there, and the layout that the body's tag says.
+pub fn summary_in(s: &[u8], at: usize, strip: bool) -> Summary
     requires { ⌜ at + 12 ≤ length (now s) ⌝ }
-    ensures { λ r. ⌜ r ≡ sumOf (drop at (now (s .entry))) ⌝ }
+    ensures { λ r. ⌜ r ≡ sumOf strip (drop at (now (s .entry))) ⌝ }
 {
     Summary {
         least: wire::number::be3(s, at + 3),
         greatest: wire::number::be3(s, at + 6),
         top: wire::number::be2(s, at + 9),
         count: wire::number::be1(s, at + 11),
+        strip: strip,
     }
 }
 
@@ -95,10 +100,10 @@ fn top_of(scores: &[u16]) -> u16
     m
 }
 
-// The summary of some postings.
-pub fn summary_of(docs: &[u32], scores: &[u16]) -> Summary
+// The summary of some postings, with a body of either layout.
+pub fn summary_of(docs: &[u32], scores: &[u16], strip: bool) -> Summary
     requires { ⌜ (0 < length (now docs)) × (length (now docs) ≤ 100) × (length (now docs) ≡ length (now scores)) ⌝ }
-    ensures { λ r. ⌜ r ≡ summaryOf (postings (now (docs .entry)) (now (scores .entry))) ⌝ }
+    ensures { λ r. ⌜ r ≡ summaryOf strip (postings (now (docs .entry)) (now (scores .entry))) ⌝ }
 {
     let n = docs.len();
     let e = n - 1;
@@ -110,6 +115,7 @@ pub fn summary_of(docs: &[u32], scores: &[u16]) -> Summary
         greatest: greatest,
         top: top,
         count: n as u8,
+        strip: strip,
     }
 }
 

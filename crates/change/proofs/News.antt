@@ -1,7 +1,8 @@
 -- A list read into two runs, and a list packed anew from two runs, or none. Assumes nothing.
-use Prim.Native.Nat.{ℕ, suc, _+_, _-_, _≤_, _<_}
+use Prim.Native.Nat.{ℕ, zero, suc, _+_, _-_, _*_, _≤_, _<_}
 use native.Mathlib.Omega.{arith}
 use mathlib.Core.Path.{_≡_, refl, sym}
+use mathlib.Core.Bool.{Bool}
 use mathlib.Core.List.{List, [], _∷_, _++_}
 use borrow.Author.Tests.{le-leb, lt-leb}
 use lib.ListN.{length, take, drop, length-append, length-drop}
@@ -13,18 +14,24 @@ use Rattle.model.specs.Runs.{Stored}
 use Rattle.model.proofs.Lists.{map-length}
 use Rattle.model.proofs.Posts.{count-of}
 use Rattle.model.proofs.Storing.{stored-append, stored-as, stored-length, stored-holds, holds-take, part-end}
-use Rattle.shelf.specs.Walk.{postsOf, blocksAt}
+use Rattle.block.specs.Summary.{sumOf}
+use Rattle.block.specs.Body.{isStrip}
+use Rattle.shelf.specs.Walk.{postsOf, stripOf, blocksOf, blocksAt}
 use Rattle.shelf.specs.declared.walk.Place.{Place}
 use Rattle.list.specs.Write.{listBytes, Paired}
 use Rattle.list.specs.Fill.{Fillable, Filled}
 use Rattle.list.proofs.Pours.{right-count}
 use Rattle.list.proofs.Packing.{list-size, size-small}
 use Rattle.change.proofs.Copies.{upTo}
-use Rattle.change.specs.Seat.{Holds, packedBytes, spliced, fitting, May, placed}
+use Rattle.change.specs.Seat.{Holds, stripBy, Stood, packedBytes, spliced, fitting, May, placed}
 use Rattle.change.specs.declared.seat.Seat.{Seat}
 use Rattle.change.specs.declared.seat.Seat.the-variants.{Taken, Free}
 
 -- ---- read
+
+first-strip : (n a : ℕ) (m : List ℕ) (b : ℕ) (s : List ℕ) → stripOf (blocksOf (suc n) a m b s) ≡ isStrip s
+unfolding blocksOf sumOf
+first-strip n a m b s = refl
 
 pub held-taken : (s : List ℕ) (p : Place) (ds ss ds′ ss′ : List ℕ) (r : ℕ) → Fillable s p (length ds) (length ss) → Filled s p ds ss ds′ ss′ r → Holds s (Taken p) ds ss r ds′ ss′
 held-taken s p ds ss ds′ ss′ r h f =
@@ -47,28 +54,37 @@ held-taken s p ds ss ds′ ss′ r h f =
 pub held-none : (s : List ℕ) (at : ℕ) (ds ss : List ℕ) → Holds s (Free at) ds ss 0 ds ss
 held-none s at ds ss = record { alike = record { docids = refl; scored = refl }; held = record { roomy = omega arith; wide = omega arith; docids = refl; scored = refl } }
 
+-- the layout of a seat's list, by its first body
+pub strip-taken : (s : List ℕ) (p : Place) → Stood (Taken p) → stripBy s (Taken p) ≡ isStrip (drop (p .at + 8 + 12 * p .count) s)
+unfolding blocksAt
+strip-taken s p h = go (p .count) (h .0)
+  where
+    go : (n : ℕ) → 0 < n → stripOf (blocksOf n (p .at + 8) (drop (p .at + 8) s) (p .at + 8 + 12 * n) (drop (p .at + 8 + 12 * n) s)) ≡ isStrip (drop (p .at + 8 + 12 * n) s)
+    go zero z = absurd (omega arith)
+    go (suc n) z = first-strip n (p .at + 8) (drop (p .at + 8) s) (p .at + 8 + 12 * suc n) (drop (p .at + 8 + 12 * suc n) s)
+
 -- ---- packed anew
 
-module _ (t : ℕ) (ds ss : List ℕ) where
-  pub new-none : length ds ≡ 0 → packedBytes t (postings ds ss) ≡ []
+module _ (strip : Bool) (t : ℕ) (ds ss : List ℕ) where
+  pub new-none : length ds ≡ 0 → packedBytes strip t (postings ds ss) ≡ []
   new-none e = go ds e
     where
-      go : (xs : List ℕ) → length xs ≡ 0 → packedBytes t (postings xs ss) ≡ []
+      go : (xs : List ℕ) → length xs ≡ 0 → packedBytes strip t (postings xs ss) ≡ []
       go [] q = refl
       go (x ∷ xs) q = absurd (omega arith)
 
-  pub new-some : length ds ≡ length ss → (length ds ≡ 0 → ⊥) → packedBytes t (postings ds ss) ≡ listBytes t (postings ds ss)
+  pub new-some : length ds ≡ length ss → (length ds ≡ 0 → ⊥) → packedBytes strip t (postings ds ss) ≡ listBytes strip t (postings ds ss)
   new-some e z = go ds ss e z
     where
-      go : (xs ys : List ℕ) → length xs ≡ length ys → (length xs ≡ 0 → ⊥) → packedBytes t (postings xs ys) ≡ listBytes t (postings xs ys)
+      go : (xs ys : List ℕ) → length xs ≡ length ys → (length xs ≡ 0 → ⊥) → packedBytes strip t (postings xs ys) ≡ listBytes strip t (postings xs ys)
       go [] ys q n = absurd (n refl)
       go (x ∷ xs) [] q n = absurd (omega arith)
       go (x ∷ xs) (y ∷ ys) q n = refl
 
-  pub new-small : length (packedBytes t (postings ds ss)) ≤ 45768
-  new-small = go (postings ds ss) (omega (arith, list-size t ds ss, size-small ds ss))
+  pub new-small : length (packedBytes strip t (postings ds ss)) ≤ 45768
+  new-small = go (postings ds ss) (omega (arith, list-size strip t ds ss, size-small strip ds ss))
     where
-      go : (ps : List Post) → length (listBytes t ps) ≤ 45768 → length (packedBytes t ps) ≤ 45768
+      go : (ps : List Post) → length (listBytes strip t ps) ≤ 45768 → length (packedBytes strip t ps) ≤ 45768
       go [] h = omega arith
       go (p ∷ ps) h = h
 
@@ -114,10 +130,10 @@ module _ (s : List ℕ) (n t : ℕ) (ds ss : List ℕ) (room : ℕ) (same : leng
   unfolding placed
   place-full a h l = rw (le-leb (length (postings ds ss)) 6400 (omega (arith, count)), lt-leb (suc n) 1024 (omega arith))
 
-  pub place-free : (a : ℕ) → length ds ≤ maxPostings → n < maxLists → placed s n (Free a) t (postings ds ss) room ≡ fitting (spliced s a a (packedBytes t (postings ds ss))) room
+  pub place-free : (a : ℕ) → length ds ≤ maxPostings → n < maxLists → placed s n (Free a) t (postings ds ss) room ≡ fitting (spliced s a a (packedBytes (stripBy s (Free a)) t (postings ds ss))) room
   unfolding placed
   place-free a h l = rw (le-leb (length (postings ds ss)) 6400 (omega (arith, count)), le-leb (suc n) 1024 l)
 
-  pub place-taken : (p : Place) → length ds ≤ maxPostings → n ≤ maxLists → placed s n (Taken p) t (postings ds ss) room ≡ fitting (spliced s (p .at) (p .next) (packedBytes t (postings ds ss))) room
+  pub place-taken : (p : Place) → length ds ≤ maxPostings → n ≤ maxLists → placed s n (Taken p) t (postings ds ss) room ≡ fitting (spliced s (p .at) (p .next) (packedBytes (stripBy s (Taken p)) t (postings ds ss))) room
   unfolding placed
   place-taken p h l = rw (le-leb (length (postings ds ss)) 6400 (omega (arith, count)), le-leb n 1024 l)

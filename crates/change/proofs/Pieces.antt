@@ -2,6 +2,7 @@
 use Prim.Native.Nat.{ℕ, zero, suc, _+_, _-_, _^_, _≤_, _<_}
 use native.Mathlib.Omega.{arith}
 use mathlib.Core.Path.{_≡_, refl, sym, ap, _∙_}
+use mathlib.Core.Bool.{Bool}
 use mathlib.Core.List.{List, [], _∷_, _++_}
 use borrow.Author.Tests.{ltb-true, ltb-false, le-leb}
 use lib.Dec.{ltb}
@@ -11,22 +12,22 @@ use Rattle.model.specs.Limits.{maxLists, maxShelf}
 use Rattle.model.specs.Outcome.{Outcome, refused, done}
 use Rattle.model.specs.Post.{Post}
 use Rattle.model.proofs.Lists.{split, Bytes, bytes-drop, rest-none}
-use Rattle.shelf.specs.Walk.{Listing, list, onto, lists, walk, postsOf}
-use Rattle.shelf.specs.Check.{badBody, badLists, checked}
+use Rattle.shelf.specs.Walk.{Listing, list, onto, lists, walk, postsOf, stripOf}
+use Rattle.shelf.specs.Check.{badBody, badLists, checked, judged}
 use Rattle.shelf.specs.declared.check.BadRead.the-variants.{NoBad}
 use Rattle.shelf.proofs.Walks.{list-walked, lists-none, lists-full, lists-step, lists-stop}
 use Rattle.shelf.proofs.Sounds.{or-none, sound-walk}
 use Rattle.lookup.proofs.Stands.{walk-size, walk-lists}
-use Rattle.list.specs.Write.{Writable, Words, wordsOf}
+use Rattle.list.specs.Write.{Word, Writable, Words, wordOf, wordsOf}
 use Rattle.list.proofs.Shelves.{sound-words}
 use Rattle.list.proofs.Pieces.{ReadsAt, Stands, packed-stands, copied-stands}
-use Rattle.change.specs.Bytes.{Piece, pieceOf, pieces, joined, anew}
+use Rattle.change.specs.Bytes.{Piece, pieceOf, pieces, joined, contents, anew}
 
 -- ---- a piece that stands by itself
 
 -- its bytes are read as it wherever they stand, and its postings may be written
 pub record Standing (x : Piece) : Type 0 where
-  pub stands : Stands (x .term) (x .posts) (x .bytes)
+  pub stands : Stands (x .strip) (x .term) (x .posts) (x .bytes)
   pub small : x .term < 2 ^ 32
   pub may : Writable (x .posts)
 
@@ -35,8 +36,8 @@ Rises floor [] = Unit {0}
 Rises floor (x ∷ xs) = (floor ≤ x .term) × Standing x × Rises (x .term + 1) xs
 
 -- the writer's pieces
-pub anew-stands : (t : ℕ) (ps : List Post) → t < 2 ^ 32 → Writable ps → Standing (anew t ps)
-anew-stands t ps small w = record { stands = packed-stands t ps small w; small = small; may = w }
+pub anew-stands : (strip : Bool) (t : ℕ) (ps : List Post) → t < 2 ^ 32 → Writable ps → Standing (anew strip t ps)
+anew-stands strip t ps small w = record { stands = packed-stands strip t ps small w; small = small; may = w }
 
 -- the pieces of a sound shelf
 kept-stands : (floor at : ℕ) (s : List ℕ) (l : Listing) → Bytes s → list floor at (drop at s) ≡ done l → badBody (l .blocks) ≡ NoBad → l .place .term < 2 ^ 32 → Writable (postsOf (l .blocks)) →
@@ -124,6 +125,16 @@ lists-most n floor at s (l ∷ ms) e =
 
 -- ---- what the checker found
 
+-- a shelf in which the checker finds nothing has lists
+pub judged-lists : (r : Outcome (List Listing)) → judged r ≡ done tt → (ls : List Listing) × (r ≡ done ls)
+judged-lists (refused n o) e = let z : _≡_ {A = ℕ} 0 1 = cc in absurd (omega arith)
+judged-lists (done ls) e = (ls, refl)
+
+-- its pieces hold what its lists hold
+pub pieces-hold : (s : List ℕ) (ls : List Listing) → contents (pieces s ls) ≡ wordsOf ls
+pieces-hold s [] = refl
+pieces-hold s (l ∷ ms) = ap {B = List Word} (λ ws. wordOf l ∷ ws) (pieces-hold s ms)
+
 pub record Sound (s : List ℕ) (ls : List Listing) : Type 0 where
   pub short : length s ≤ maxShelf
   pub reads : lists maxLists 0 0 s ≡ done ls
@@ -149,8 +160,9 @@ sound-rises s ls h e =
 
 -- ---- and pieces that stand, joined, are a sound shelf
 
-piece-is : (x : Piece) (t : ℕ) (ps : List Post) (bs : List ℕ) → t ≡ x .term → ps ≡ x .posts → bs ≡ x .bytes → _≡_ {A = Piece} (record { term = t; posts = ps; bytes = bs }) x
-piece-is x t ps bs e f g = rw (e, f, g)
+piece-is : (x : Piece) (t : ℕ) (ps : List Post) (strip : Bool) (bs : List ℕ) → t ≡ x .term → ps ≡ x .posts → strip ≡ x .strip → bs ≡ x .bytes →
+    _≡_ {A = Piece} (record { term = t; posts = ps; strip = strip; bytes = bs }) x
+piece-is x t ps strip bs e f g h = rw (e, f, g, h)
 
 -- the lists that are read, and that they are the pieces
 pub record Found (n floor at : ℕ) (s : List ℕ) (xs : List Piece) : Type 0 where
@@ -159,7 +171,7 @@ pub record Found (n floor at : ℕ) (s : List ℕ) (xs : List Piece) : Type 0 wh
   pub right : badLists found ≡ NoBad
   pub same : pieces s found ≡ xs
 
-found-cons : (n floor at : ℕ) (s : List ℕ) (x : Piece) (xs : List Piece) → drop at s ≡ x .bytes ++ joined xs → Standing x → (r : ReadsAt (x .term) (x .posts) (x .bytes) floor at (joined xs)) →
+found-cons : (n floor at : ℕ) (s : List ℕ) (x : Piece) (xs : List Piece) → drop at s ≡ x .bytes ++ joined xs → Standing x → (r : ReadsAt (x .strip) (x .term) (x .posts) (x .bytes) floor at (joined xs)) →
     Found n (x .term + 1) (at + length (x .bytes)) s xs → Found (suc n) floor at s (x ∷ xs)
 found-cons n floor at s x xs d w r f =
     let l = r .found in
@@ -175,7 +187,7 @@ found-cons n floor at s x xs d w r f =
       found = l ∷ f .found;
       reads = step ∙ ap (λ (o : Outcome (List Listing)). onto l o) rest;
       right = rw (r .right) (f .right);
-      same = ap {B = List Piece} (λ (y : Piece). y ∷ pieces s (f .found)) (piece-is x (l .place .term) (postsOf (l .blocks)) (take (l .place .next - l .place .at) (drop (l .place .at) s)) (r .term) (r .posts) own)
+      same = ap {B = List Piece} (λ (y : Piece). y ∷ pieces s (f .found)) (piece-is x (l .place .term) (postsOf (l .blocks)) (stripOf (l .blocks)) (take (l .place .next - l .place .at) (drop (l .place .at) s)) (r .term) (r .posts) (r .layout) own)
           ∙ ap {B = List Piece} (λ (ys : List Piece). x ∷ ys) (f .same);
     }
 

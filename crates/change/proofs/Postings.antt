@@ -207,9 +207,9 @@ none-zero : (b : Bool) → _≡_ {A = ℕ} (cond b 0 0) 0
 none-zero true = refl
 none-zero false = refl
 
-stored-unless : (t u e : ℕ) (ps : List Post) (xs : List Word) → (eqb u t ≡ true → stored u e xs ≡ 0) → stored u e (unlessEmpty t ps xs) ≡ cond (eqb u t) (scoreIn e ps) (stored u e xs)
-stored-unless t u e [] xs low = split (eqb u t) (λ g. rw g (low g)) (λ g. rw g)
-stored-unless t u e (p ∷ ps) xs low = refl
+stored-unless : (strip : Bool) (t u e : ℕ) (ps : List Post) (xs : List Word) → (eqb u t ≡ true → stored u e xs ≡ 0) → stored u e (unlessEmpty strip t ps xs) ≡ cond (eqb u t) (scoreIn e ps) (stored u e xs)
+stored-unless strip t u e [] xs low = split (eqb u t) (λ g. rw g (low g)) (λ g. rw g)
+stored-unless strip t u e (p ∷ ps) xs low = refl
 
 -- after a clear or a withdrawal, docid d is in no list that is named, and all else is as before
 stored-clear : (named : ℕ → Bool) (floor d u e : ℕ) (xs : List Word) → Ordered floor xs → stored u e (clearWords named d xs) ≡ cond (named u && eqb e d) 0 (stored u e xs)
@@ -222,10 +222,10 @@ stored-clear named floor d u e (x ∷ xs) ok =
     (λ g. let q : u ≡ x .term = eqb-true _ _ g in
     split (named (x .term))
     (λ m. let m1 : named u ≡ true = rw q m in
-    rw (m, stored-unless (x .term) u e (clearPost d (x .posts)) (clearWords named d xs) low, g, m1) (score-clear d e (x .posts)))
+    rw (m, stored-unless (x .strip) (x .term) u e (clearPost d (x .posts)) (clearWords named d xs) low, g, m1) (score-clear d e (x .posts)))
     (λ m. let m1 : named u ≡ false = rw q m in rw (m, g, m1)))
     (λ g. split (named (x .term))
-    (λ m. rw (m, stored-unless (x .term) u e (clearPost d (x .posts)) (clearWords named d xs) low, g) ih)
+    (λ m. rw (m, stored-unless (x .strip) (x .term) u e (clearPost d (x .posts)) (clearWords named d xs) low, g) ih)
     (λ m. rw (m, g) ih))
 
 -- an edit leaves its score where it touches, and all else as before

@@ -8,21 +8,22 @@ use Rattle.model.specs.Limits.{maxDocid, maxScore, maxPostings, maxLists, maxSh
 use Rattle.model.specs.Outcome.{Outcome, refused, done, andThen}
 use Rattle.model.specs.Post.{Post, post, docs}
 use Rattle.model.specs.Runs.{has}
-use Rattle.shelf.specs.Walk.{Listing, postsOf}
+use Rattle.shelf.specs.Walk.{Listing, postsOf, stripOf}
 use Rattle.shelf.specs.Check.{checked}
 use Rattle.list.specs.Write.{Word, listBytes}
 use Rattle.change.specs.Edits.{Edit, Set, Clear, Withdraw, setPost, clearPost, word, only, every}
 
 -- ---- a shelf as pieces
 
--- a list as it stands in a shelf: its term, its postings, its bytes
+-- a list as it stands in a shelf: its term, its postings, the layout of its bodies, its bytes
 pub record Piece : Type 0 where
   pub term : ℕ
   pub posts : List Post
+  pub strip : Bool
   pub bytes : List ℕ
 
 abbrev pub pieceOf : List ℕ → Listing → Piece
-pieceOf s l = record { term = l .place .term; posts = postsOf (l .blocks); bytes = take (l .place .next - l .place .at) (drop (l .place .at) s) }
+pieceOf s l = record { term = l .place .term; posts = postsOf (l .blocks); strip = stripOf (l .blocks); bytes = take (l .place .next - l .place .at) (drop (l .place .at) s) }
 
 abbrev pub pieces : List ℕ → List Listing → List Piece
 pieces s [] = []
@@ -35,26 +36,26 @@ joined (x ∷ xs) = x .bytes ++ joined xs
 -- what the pieces hold
 abbrev pub contents : List Piece → List Word
 contents [] = []
-contents (x ∷ xs) = word (x .term) (x .posts) ∷ contents xs
+contents (x ∷ xs) = word (x .strip) (x .term) (x .posts) ∷ contents xs
 
 -- ---- the edit, piece by piece: "others are copied byte for byte"
 
--- "packed anew as by the writer"
-abbrev pub anew : ℕ → List Post → Piece
-anew t ps = record { term = t; posts = ps; bytes = listBytes t ps }
+-- "packed anew as by the writer", in a layout
+abbrev pub anew : Bool → ℕ → List Post → Piece
+anew strip t ps = record { term = t; posts = ps; strip = strip; bytes = listBytes strip t ps }
 
--- "Each list that changes, and the list named in a set, is packed anew"
+-- "Each list that changes, and the list named in a set, is packed anew"; "an edit keeps a list's tag and a new list gets 03"
 abbrev pub setPiece : (t d w : ℕ) → List Piece → List Piece
-setPiece t d w [] = anew t (post d w ∷ []) ∷ []
+setPiece t d w [] = anew false t (post d w ∷ []) ∷ []
 setPiece t d w (x ∷ xs) =
-    cond (ltb t (x .term)) (anew t (post d w ∷ []) ∷ x ∷ xs)
-    (cond (eqb t (x .term)) (anew t (setPost d w (x .posts)) ∷ xs)
+    cond (ltb t (x .term)) (anew false t (post d w ∷ []) ∷ x ∷ xs)
+    (cond (eqb t (x .term)) (anew (x .strip) t (setPost d w (x .posts)) ∷ xs)
     (x ∷ setPiece t d w xs))
 
 -- "a list left without postings goes"
-abbrev pub anewUnlessEmpty : (t : ℕ) → List Post → List Piece → List Piece
-anewUnlessEmpty t [] xs = xs
-anewUnlessEmpty t (p ∷ ps) xs = anew t (p ∷ ps) ∷ xs
+abbrev pub anewUnlessEmpty : (strip : Bool) (t : ℕ) → List Post → List Piece → List Piece
+anewUnlessEmpty strip t [] xs = xs
+anewUnlessEmpty strip t (p ∷ ps) xs = anew strip t (p ∷ ps) ∷ xs
 
 -- a list whose term is named and that holds docid d
 abbrev pub holds : (named : ℕ → Bool) (d : ℕ) → Piece → Bool
@@ -63,7 +64,7 @@ holds named d x = named (x .term) && has d (docs (x .posts))
 abbrev pub clearPieces : (named : ℕ → Bool) (d : ℕ) → List Piece → List Piece
 clearPieces named d [] = []
 clearPieces named d (x ∷ xs) =
-    cond (holds named d x) (anewUnlessEmpty (x .term) (clearPost d (x .posts)) (clearPieces named d xs)) (x ∷ clearPieces named d xs)
+    cond (holds named d x) (anewUnlessEmpty (x .strip) (x .term) (clearPost d (x .posts)) (clearPieces named d xs)) (x ∷ clearPieces named d xs)
 
 unfoldable pub changed : Edit → List Piece → List Piece
 changed (Set t d w) xs = setPiece t d w xs

@@ -1,7 +1,7 @@
 -- What an edit does to the postings of a shelf. Assumes nothing.
 use Prim.Native.Nat.{ℕ, _^_, _<_}
 use mathlib.Core.List.{List, [], _∷_}
-use mathlib.Core.Bool.{Bool, true, cond, _&&_}
+use mathlib.Core.Bool.{Bool, true, false, cond, _&&_}
 use lib.Dec.{ltb, eqb}
 use Rattle.model.specs.Post.{Post, post}
 use Rattle.list.specs.Write.{Word}
@@ -24,26 +24,27 @@ clearPost d (p ∷ ps) = cond (eqb d (p .doc)) (clearPost d ps) (p ∷ clearPost
 
 -- ---- on the lists, whose terms rise
 
-abbrev pub word : ℕ → List Post → Word
-word t ps = record { term = t; posts = ps }
+abbrev pub word : Bool → ℕ → List Post → Word
+word strip t ps = record { term = t; posts = ps; strip = strip }
 
+-- "an edit keeps a list's tag and a new list gets 03"
 abbrev pub setWord : (t d w : ℕ) → List Word → List Word
-setWord t d w [] = word t (post d w ∷ []) ∷ []
+setWord t d w [] = word false t (post d w ∷ []) ∷ []
 setWord t d w (x ∷ xs) =
-    cond (ltb t (x .term)) (word t (post d w ∷ []) ∷ x ∷ xs)
-    (cond (eqb t (x .term)) (word t (setPost d w (x .posts)) ∷ xs)
+    cond (ltb t (x .term)) (word false t (post d w ∷ []) ∷ x ∷ xs)
+    (cond (eqb t (x .term)) (word (x .strip) t (setPost d w (x .posts)) ∷ xs)
     (x ∷ setWord t d w xs))
 
 -- "a list left without postings goes"
-abbrev pub unlessEmpty : (t : ℕ) → List Post → List Word → List Word
-unlessEmpty t [] xs = xs
-unlessEmpty t (p ∷ ps) xs = word t (p ∷ ps) ∷ xs
+abbrev pub unlessEmpty : (strip : Bool) (t : ℕ) → List Post → List Word → List Word
+unlessEmpty strip t [] xs = xs
+unlessEmpty strip t (p ∷ ps) xs = word strip t (p ∷ ps) ∷ xs
 
 -- docid d cleared from every list whose term is named
 abbrev pub clearWords : (named : ℕ → Bool) (d : ℕ) → List Word → List Word
 clearWords named d [] = []
 clearWords named d (x ∷ xs) =
-    cond (named (x .term)) (unlessEmpty (x .term) (clearPost d (x .posts)) (clearWords named d xs)) (x ∷ clearWords named d xs)
+    cond (named (x .term)) (unlessEmpty (x .strip) (x .term) (clearPost d (x .posts)) (clearWords named d xs)) (x ∷ clearWords named d xs)
 
 abbrev pub only : ℕ → ℕ → Bool
 only t u = eqb u t

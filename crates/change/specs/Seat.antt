@@ -1,14 +1,14 @@
 -- The private contracts of the edits' code on the place of a list. Assumes nothing.
-use Prim.Native.Nat.{ℕ, suc, _+_, _≤_}
+use Prim.Native.Nat.{ℕ, suc, _+_, _*_, _^_, _≤_, _<_}
 use mathlib.Core.Path.{_≡_}
 use mathlib.Core.List.{List, [], _∷_, _++_}
-use mathlib.Core.Bool.{cond, _&&_}
+use mathlib.Core.Bool.{Bool, false, cond, _&&_}
 use lib.Dec.{leb, ltb, eqb}
 use lib.ListN.{length, take, drop}
 use Rattle.model.specs.Limits.{maxPostings, maxLists, maxShelf}
 use Rattle.model.specs.Outcome.{Outcome, refused, done}
 use Rattle.model.specs.Post.{Post, postings}
-use Rattle.shelf.specs.Walk.{Listing, postsOf, blocksAt}
+use Rattle.shelf.specs.Walk.{Listing, postsOf, stripOf, blocksAt}
 use Rattle.shelf.specs.Check.{checked, judged}
 use Rattle.shelf.specs.declared.walk.Place.{Place}
 use Rattle.list.specs.Write.{listBytes, Writable}
@@ -30,6 +30,16 @@ abbrev pub heldBy : List ℕ → Seat → List Post
 heldBy s (Taken p) = postsOf (blocksAt s (p .at) (p .count))
 heldBy s (Free at) = []
 
+-- the layout of its bodies: "a new list gets 03"
+abbrev pub stripBy : List ℕ → Seat → Bool
+stripBy s (Taken p) = stripOf (blocksAt s (p .at) (p .count))
+stripBy s (Free at) = false
+
+-- a list there has blocks, and ends at a place that there is
+abbrev pub Stood : Seat → Type 0
+Stood (Taken p) = (0 < p .count) × (p .at + 8 + 12 * p .count < 2 ^ 64)
+Stood (Free at) = Unit {0}
+
 abbrev pub Fills : List ℕ → Seat → (d w : ℕ) → Type 0
 Fills s (Taken p) d w = Fillable s p d w
 Fills s (Free at) d w = Unit {0}
@@ -41,9 +51,9 @@ pub record Holds (s : List ℕ) (seat : Seat) (ds ss : List ℕ) (r : ℕ) (ds�
 -- ---- a list in place of the bytes from `at` to `next`
 
 -- the bytes of a list, none without postings
-abbrev pub packedBytes : ℕ → List Post → List ℕ
-packedBytes t [] = []
-packedBytes t (p ∷ ps) = listBytes t (p ∷ ps)
+abbrev pub packedBytes : Bool → ℕ → List Post → List ℕ
+packedBytes strip t [] = []
+packedBytes strip t (p ∷ ps) = listBytes strip t (p ∷ ps)
 
 abbrev pub spliced : List ℕ → (at next : ℕ) → List ℕ → List ℕ
 spliced s at next mid = take at s ++ (mid ++ drop next s)
@@ -73,15 +83,16 @@ abbrev pub listsWith : Seat → ℕ → ℕ
 listsWith (Taken p) n = n
 listsWith (Free at) n = suc n
 
--- the shelf of n lists with the postings ps at the seat of term t: number 11, number 9, or its bytes
+-- the shelf of n lists with the postings ps at the seat of term t, in the layout of the list there: number 11, number 9, or its bytes
 unfoldable pub placed : List ℕ → (n : ℕ) → Seat → (t : ℕ) → List Post → (room : ℕ) → Outcome (List ℕ)
 placed s n seat t ps room =
     cond (leb (length ps) maxPostings && leb (listsWith seat n) maxLists)
-    (fitting (spliced s (seatAt seat) (seatNext seat) (packedBytes t ps)) room)
+    (fitting (spliced s (seatAt seat) (seatNext seat) (packedBytes (stripBy s seat) t ps)) room)
     (refused 11 0)
 
 -- a seat of a sound shelf, and two runs whose postings may be written if they are few
 pub record Placeable (s : List ℕ) (seat : Seat) (ds ss : List ℕ) : Type 0 where
+  pub stood : Stood seat
   pub short : length s ≤ maxShelf
   pub order : seatAt seat ≤ seatNext seat
   pub inside : seatNext seat ≤ length s

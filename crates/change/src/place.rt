@@ -26,17 +26,18 @@ pub fn place(
     if model::MAX_POSTINGS < docs.len() {
         return Answer::Refused(11, 0);
     }
+    let strip = crate::seat::strip_of(s, seat);
     match seat {
         Seat::Taken(p) => {
             let at = p.at;
             let next = p.next;
-            crate::splice::splice(s, at, next, term, docs, scores, out)
+            crate::splice::splice(s, at, next, strip, term, docs, scores, out)
         }
         Seat::Free(at) => {
             if model::MAX_LISTS as usize <= crate::seat::lists_in(s) {
                 return Answer::Refused(11, 0);
             }
-            crate::splice::splice(s, at, at, term, docs, scores, out)
+            crate::splice::splice(s, at, at, strip, term, docs, scores, out)
         }
     }
 }

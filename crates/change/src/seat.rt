@@ -5,7 +5,7 @@ ghost use lib.ListN.{length};
 ghost use Rattle.model.specs.Outcome.{done};
 ghost use Rattle.shelf.specs.Walk.{Listing};
 ghost use Rattle.shelf.specs.Check.{checked};
-ghost use Rattle.change.specs.Seat.{seatOf, Fills, Holds};
+ghost use Rattle.change.specs.Seat.{seatOf, Fills, Holds, stripBy, Stood};
 use shelf::walk::ListRead;
 use shelf::walk::Place;
 
@@ -70,5 +70,16 @@ pub fn held(s: &[u8], seat: Seat, docs: &mut [u32], scores: &mut [u16]) -> usize
     match seat {
         Seat::Taken(p) => list::read::fill(s, p, docs, scores),
         Seat::Free(at) => 0,
+    }
+}
+
+// The layout of a seat's list; that of a new one where there is none.
+pub fn strip_of(s: &[u8], seat: Seat) -> bool
+    requires { ⌜ Stood seat ⌝ }
+    ensures { λ r. ⌜ r ≡ stripBy (now (s .entry)) seat ⌝ }
+{
+    match seat {
+        Seat::Taken(p) => block::body::is_strip(s, p.at + 8 + 12 * (p.count as usize)),
+        Seat::Free(at) => false,
     }
 }

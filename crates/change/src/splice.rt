@@ -1,5 +1,6 @@
 // A shelf with one list in place of another: the bytes before it and after it as they stand.
 ghost use mathlib.Core.Path.{_≡_};
+ghost use mathlib.Core.Bool.{Bool};
 ghost use Prim.Native.Nat.{ℕ, _+_, _≤_};
 ghost use lib.ListN.{length};
 ghost use Rattle.model.specs.Limits.{maxShelf};
@@ -9,10 +10,10 @@ ghost use Rattle.list.specs.Answer.{Gives};
 ghost use Rattle.change.specs.Seat.{packedBytes, spliced, fitting, May};
 use list::answer::Answer;
 
-// How many bytes a list of these postings takes: none without postings.
+// How many bytes a list of these postings takes, in either layout: none without postings.
 pub fn new_len(docs: &[u32], scores: &[u16]) -> usize
     requires { ⌜ May (now docs) (now scores) ⌝ }
-    ensures { λ r. ⌜ ((t : ℕ) → r ≡ length (packedBytes t (postings (now (docs .entry)) (now (scores .entry))))) ⌝ }
+    ensures { λ r. ⌜ ((strip : Bool) (t : ℕ) → r ≡ length (packedBytes strip t (postings (now (docs .entry)) (now (scores .entry))))) ⌝ }
 {
     if docs.len() == 0 {
         return 0;
@@ -21,14 +22,21 @@ pub fn new_len(docs: &[u32], scores: &[u16]) -> usize
 }
 
 // Stores the list, if there are postings, at a place that has room, and gives the place past it.
-pub fn put_new(out: &mut [u8], at: usize, term: u32, docs: &[u32], scores: &[u16]) -> usize
-    requires { ⌜ May (now docs) (now scores) × (at + length (packedBytes term (postings (now docs) (now scores))) ≤ length (now out)) ⌝ }
-    ensures { λ r. ⌜ Stored (now (out .entry)) (now (out .exit)) at r (packedBytes term (postings (now (docs .entry)) (now (scores .entry)))) ⌝ }
+pub fn put_new(
+    out: &mut [u8],
+    at: usize,
+    strip: bool,
+    term: u32,
+    docs: &[u32],
+    scores: &[u16],
+) -> usize
+    requires { ⌜ May (now docs) (now scores) × (at + length (packedBytes strip term (postings (now docs) (now scores))) ≤ length (now out)) ⌝ }
+    ensures { λ r. ⌜ Stored (now (out .entry)) (now (out .exit)) at r (packedBytes strip term (postings (now (docs .entry)) (now (scores .entry)))) ⌝ }
 {
     if docs.len() == 0 {
         return at;
     }
-    list::write::put_list(out, at, term, docs, scores)
+    list::write::put_list(out, at, strip, term, docs, scores)
 }
 
 // Writes the shelf with the list of these postings, or none, in place of its bytes from `at` to `next`; or gives number 11 or 9.
@@ -36,13 +44,14 @@ pub fn splice(
     s: &[u8],
     at: usize,
     next: usize,
+    strip: bool,
     term: u32,
     docs: &[u32],
     scores: &[u16],
     out: &mut [u8],
 ) -> Answer
     requires { ⌜ (at ≤ next) × (next ≤ length (now s)) × (length (now s) ≤ maxShelf) × May (now docs) (now scores) ⌝ }
-    ensures { λ r. ⌜ Gives (fitting (spliced (now (s .entry)) at next (packedBytes term (postings (now (docs .entry)) (now (scores .entry))))) (length (now (out .entry)))) (now (out .entry)) (now (out .exit)) r ⌝ }
+    ensures { λ r. ⌜ Gives (fitting (spliced (now (s .entry)) at next (packedBytes strip term (postings (now (docs .entry)) (now (scores .entry))))) (length (now (out .entry)))) (now (out .entry)) (now (out .exit)) r ⌝ }
 {
     let end = s.len();
     let total = at + new_len(docs, scores) + (end - next);
@@ -53,7 +62,7 @@ pub fn splice(
         return Answer::Refused(9, 0);
     }
     let a = crate::copy::copy(out, 0, s, 0, at);
-    let b = put_new(out, a, term, docs, scores);
+    let b = put_new(out, a, strip, term, docs, scores);
     let c = crate::copy::copy(out, b, s, next, end);
     Answer::Done(c)
 }

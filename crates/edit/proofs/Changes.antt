@@ -11,7 +11,7 @@ use Rattle.model.specs.Limits.{maxDocid, maxScore, maxPostings}
 use Rattle.model.specs.Post.{Post, post, docs}
 use Rattle.model.specs.Runs.{has}
 use Rattle.model.proofs.Lists.{split, and-true}
-use Rattle.shelf.specs.Walk.{Listing, postsOf}
+use Rattle.shelf.specs.Walk.{Listing, postsOf, stripOf}
 use Rattle.list.specs.Write.{Word, Words, wordsOf, Writable}
 use Rattle.change.specs.Edits.{Edit, Set, Clear, Withdraw, setPost, clearPost, word, setWord, unlessEmpty, clearWords, only, every, applied, Termed}
 use Rattle.change.specs.Bytes.{Piece, pieces, contents, bytesFor, postsFor, repacks, anew, setPiece, anewUnlessEmpty, holds, clearPieces, changed, docidIn, inRange, few}
@@ -27,8 +27,8 @@ writable : (ps : List Post) → Fit ps → length ps ≤ maxPostings → Writabl
 writable ps f l = record { some = f .some; few = l; rise = f .rise; scores = f .scores; last = f .last }
 
 -- a list packed anew stands in front of others
-anew-rises : (floor t : ℕ) (ps : List Post) (xs : List Piece) → floor ≤ t → t < 2 ^ 32 → Fit ps → few (anew t ps ∷ xs) ≡ true → Rises (t + 1) xs → Rises floor (anew t ps ∷ xs)
-anew-rises floor t ps xs low small f e r = (low, anew-stands t ps small (writable ps f (few-cons (anew t ps) xs e .0)), r)
+anew-rises : (strip : Bool) (floor t : ℕ) (ps : List Post) (xs : List Piece) → floor ≤ t → t < 2 ^ 32 → Fit ps → few (anew strip t ps ∷ xs) ≡ true → Rises (t + 1) xs → Rises floor (anew strip t ps ∷ xs)
+anew-rises strip floor t ps xs low small f e r = (low, anew-stands strip t ps small (writable ps f (few-cons (anew strip t ps) xs e .0)), r)
 
 rises-less : (floor low : ℕ) (xs : List Piece) → low ≤ floor → Rises floor xs → Rises low xs
 rises-less floor low [] l r = tt
@@ -37,17 +37,17 @@ rises-less floor low (x ∷ xs) l r = (omega (arith, r .0), r .1, r .2)
 -- ---- set
 
 set-rises : (floor t d w : ℕ) (xs : List Piece) → floor ≤ t → t < 2 ^ 32 → Ranged d w → Rises floor xs → few (setPiece t d w xs) ≡ true → Rises floor (setPiece t d w xs)
-set-rises floor t d w [] low small g r e = anew-rises floor t (post d w ∷ []) [] low small (one-fit d w g) e tt
+set-rises floor t d w [] low small g r e = anew-rises false floor t (post d w ∷ []) [] low small (one-fit d w g) e tt
 set-rises floor t d w (x ∷ xs) low small g r e =
     split (ltb t (x .term))
     (λ l.
-    let e1 : few (anew t (post d w ∷ []) ∷ x ∷ xs) ≡ true = rw l at e in
-    rw l (anew-rises floor t (post d w ∷ []) (x ∷ xs) low small (one-fit d w g) e1 (omega (arith, ltb-true t (x .term) l), r .1, r .2)))
+    let e1 : few (anew false t (post d w ∷ []) ∷ x ∷ xs) ≡ true = rw l at e in
+    rw l (anew-rises false floor t (post d w ∷ []) (x ∷ xs) low small (one-fit d w g) e1 (omega (arith, ltb-true t (x .term) l), r .1, r .2)))
     (λ l. split (eqb t (x .term))
     (λ f.
     let q : t ≡ x .term = eqb-true _ _ f in
-    let e1 : few (anew t (setPost d w (x .posts)) ∷ xs) ≡ true = rw (l, f) at e in
-    rw (l, f) (anew-rises floor t (setPost d w (x .posts)) xs low small (set-fit d w (x .posts) g (may-fit (x .posts) (r .1 .may))) e1 (rw q (r .2))))
+    let e1 : few (anew (x .strip) t (setPost d w (x .posts)) ∷ xs) ≡ true = rw (l, f) at e in
+    rw (l, f) (anew-rises (x .strip) floor t (setPost d w (x .posts)) xs low small (set-fit d w (x .posts) g (may-fit (x .posts) (r .1 .may))) e1 (rw q (r .2))))
     (λ f.
     let e1 : few (x ∷ setPiece t d w xs) ≡ true = rw (l, f) at e in
     let more : x .term + 1 ≤ t = omega (arith, ltb-false t (x .term) l, eqb-false t (x .term) f) in
@@ -62,34 +62,34 @@ set-contents t d w (x ∷ xs) =
 
 -- ---- clear and withdraw
 
-unless-rises : (floor t : ℕ) (ps : List Post) (xs : List Piece) → floor ≤ t → t < 2 ^ 32 → (0 < length ps → Fit ps) → few (anewUnlessEmpty t ps xs) ≡ true → Rises (t + 1) xs →
-    Rises floor (anewUnlessEmpty t ps xs)
-unless-rises floor t [] xs low small f e r = rises-less (t + 1) floor xs (omega arith) r
-unless-rises floor t (p ∷ ps) xs low small f e r = anew-rises floor t (p ∷ ps) xs low small (f (omega arith)) e r
+unless-rises : (strip : Bool) (floor t : ℕ) (ps : List Post) (xs : List Piece) → floor ≤ t → t < 2 ^ 32 → (0 < length ps → Fit ps) → few (anewUnlessEmpty strip t ps xs) ≡ true → Rises (t + 1) xs →
+    Rises floor (anewUnlessEmpty strip t ps xs)
+unless-rises strip floor t [] xs low small f e r = rises-less (t + 1) floor xs (omega arith) r
+unless-rises strip floor t (p ∷ ps) xs low small f e r = anew-rises strip floor t (p ∷ ps) xs low small (f (omega arith)) e r
 
-unless-few : (t : ℕ) (ps : List Post) (xs : List Piece) → few (anewUnlessEmpty t ps xs) ≡ true → few xs ≡ true
-unless-few t [] xs e = e
-unless-few t (p ∷ ps) xs e = few-cons (anew t (p ∷ ps)) xs e .1
+unless-few : (strip : Bool) (t : ℕ) (ps : List Post) (xs : List Piece) → few (anewUnlessEmpty strip t ps xs) ≡ true → few xs ≡ true
+unless-few strip t [] xs e = e
+unless-few strip t (p ∷ ps) xs e = few-cons (anew strip t (p ∷ ps)) xs e .1
 
 clear-rises : (named : ℕ → Bool) (floor d : ℕ) (xs : List Piece) → Rises floor xs → few (clearPieces named d xs) ≡ true → Rises floor (clearPieces named d xs)
 clear-rises named floor d [] r e = tt
 clear-rises named floor d (x ∷ xs) r e =
     split (holds named d x)
     (λ h.
-    let e1 : few (anewUnlessEmpty (x .term) (clearPost d (x .posts)) (clearPieces named d xs)) ≡ true = rw h at e in
-    let more = clear-rises named (x .term + 1) d xs (r .2) (unless-few (x .term) (clearPost d (x .posts)) (clearPieces named d xs) e1) in
-    rw h (unless-rises floor (x .term) (clearPost d (x .posts)) (clearPieces named d xs) (r .0) (r .1 .small) (clear-fit d (x .posts) (may-fit (x .posts) (r .1 .may))) e1 more))
+    let e1 : few (anewUnlessEmpty (x .strip) (x .term) (clearPost d (x .posts)) (clearPieces named d xs)) ≡ true = rw h at e in
+    let more = clear-rises named (x .term + 1) d xs (r .2) (unless-few (x .strip) (x .term) (clearPost d (x .posts)) (clearPieces named d xs) e1) in
+    rw h (unless-rises (x .strip) floor (x .term) (clearPost d (x .posts)) (clearPieces named d xs) (r .0) (r .1 .small) (clear-fit d (x .posts) (may-fit (x .posts) (r .1 .may))) e1 more))
     (λ h.
     let e1 : few (x ∷ clearPieces named d xs) ≡ true = rw h at e in
     rw h (r .0, r .1, clear-rises named (x .term + 1) d xs (r .2) (few-cons x (clearPieces named d xs) e1 .1)))
 
-unless-contents : (t : ℕ) (ps : List Post) (xs : List Piece) → contents (anewUnlessEmpty t ps xs) ≡ unlessEmpty t ps (contents xs)
-unless-contents t [] xs = refl
-unless-contents t (p ∷ ps) xs = refl
+unless-contents : (strip : Bool) (t : ℕ) (ps : List Post) (xs : List Piece) → contents (anewUnlessEmpty strip t ps xs) ≡ unlessEmpty strip t ps (contents xs)
+unless-contents strip t [] xs = refl
+unless-contents strip t (p ∷ ps) xs = refl
 
-unless-some : (t : ℕ) (ps : List Post) (xs : List Word) → 0 < length ps → unlessEmpty t ps xs ≡ word t ps ∷ xs
-unless-some t [] xs l = absurd (omega arith)
-unless-some t (p ∷ ps) xs l = refl
+unless-some : (strip : Bool) (t : ℕ) (ps : List Post) (xs : List Word) → 0 < length ps → unlessEmpty strip t ps xs ≡ word strip t ps ∷ xs
+unless-some strip t [] xs l = absurd (omega arith)
+unless-some strip t (p ∷ ps) xs l = refl
 
 clear-contents : (named : ℕ → Bool) (floor d : ℕ) (xs : List Piece) → Rises floor xs → contents (clearPieces named d xs) ≡ clearWords named d (contents xs)
 clear-contents named floor d [] r = refl
@@ -97,8 +97,8 @@ clear-contents named floor d (x ∷ xs) r =
     let ih = clear-contents named (x .term + 1) d xs (r .2) in
     split (named (x .term))
     (λ m. split (has d (docs (x .posts)))
-    (λ h. rw (m, h, unless-contents (x .term) (clearPost d (x .posts)) (clearPieces named d xs), ih))
-    (λ h. rw (m, h, ih, clear-absent d (x .posts) h, unless-some (x .term) (x .posts) (clearWords named d (contents xs)) (r .1 .may .some))))
+    (λ h. rw (m, h, unless-contents (x .strip) (x .term) (clearPost d (x .posts)) (clearPieces named d xs), ih))
+    (λ h. rw (m, h, ih, clear-absent d (x .posts) h, unless-some (x .strip) (x .term) (x .posts) (clearWords named d (contents xs)) (r .1 .may .some))))
     (λ m. rw (m, ih))
 
 -- ---- any edit
@@ -125,11 +125,6 @@ changed-contents (Set t d w) xs r = set-contents t d w xs
 changed-contents (Clear t d) xs r = clear-contents (only t) 0 d xs r
 changed-contents (Withdraw d) xs r = clear-contents every 0 d xs r
 
--- the pieces of a shelf hold what its lists hold
-pub contents-words : (s : List ℕ) (ls : List Listing) → contents (pieces s ls) ≡ wordsOf ls
-contents-words s [] = refl
-contents-words s (l ∷ ls) = ap {B = List Word} (λ t. word (l .place .term) (postsOf (l .blocks)) ∷ t) (contents-words s ls)
-
 -- what pieces that stand hold may be written
 pub rises-words : (floor : ℕ) (xs : List Piece) → Rises floor xs → Words floor (contents xs)
 rises-words floor [] r = tt
@@ -151,9 +146,9 @@ set-copies t d w u (x ∷ xs) n =
     (λ f. let q : t ≡ x .term = eqb-true _ _ f in let m : eqb u (x .term) ≡ false = rw q at n in rw (l, f, n, m))
     (λ f. rw (l, f, set-copies t d w u xs n)))
 
-unless-copies : (t u : ℕ) (ps : List Post) (xs : List Piece) → eqb u t ≡ false → bytesFor u (anewUnlessEmpty t ps xs) ≡ bytesFor u xs
-unless-copies t u [] xs n = refl
-unless-copies t u (p ∷ ps) xs n = rw n
+unless-copies : (strip : Bool) (t u : ℕ) (ps : List Post) (xs : List Piece) → eqb u t ≡ false → bytesFor u (anewUnlessEmpty strip t ps xs) ≡ bytesFor u xs
+unless-copies strip t u [] xs n = refl
+unless-copies strip t u (p ∷ ps) xs n = rw n
 
 clear-copies : (named : ℕ → Bool) (d u : ℕ) (xs : List Piece) → (named u && has d (docs (postsFor u xs))) ≡ false → bytesFor u (clearPieces named d xs) ≡ bytesFor u xs
 clear-copies named d u [] n = refl
@@ -167,7 +162,7 @@ clear-copies named d u (x ∷ xs) n =
     let n1 : (named u && has d (docs (postsFor u xs))) ≡ false = rw g at n in
     let ih = clear-copies named d u xs n1 in
     split (holds named d x)
-    (λ h. rw (h, unless-copies (x .term) u (clearPost d (x .posts)) (clearPieces named d xs) g, g) ih)
+    (λ h. rw (h, unless-copies (x .strip) (x .term) u (clearPost d (x .posts)) (clearPieces named d xs) g, g) ih)
     (λ h. rw (h, g) ih))
 
 pub changed-copies : (e : Edit) (u : ℕ) (xs : List Piece) → repacks e u xs ≡ false → bytesFor u (changed e xs) ≡ bytesFor u xs

@@ -1,11 +1,11 @@
--- A history of edits from the empty shelf: sound, what the accepted edits add up to, and one writing of it. Assumes nothing.
+-- A history of edits and conversions from the empty shelf: sound, what the accepted ones add up to, and one writing of it. Assumes nothing.
 use Prim.Native.Nat.{ℕ, _+_, _≤_}
 use native.Mathlib.Omega.{arith}
 use mathlib.Core.Path.{_≡_, refl, sym, ap, subst, _∙_}
 use mathlib.Core.List.{List, [], _∷_, _++_}
-use mathlib.Core.Bool.{Bool}
+use mathlib.Core.Bool.{Bool, not}
 use lib.Dec.{ltb, eqb}
-use lib.ListN.{length}
+use lib.ListN.{length, length-append}
 use Rattle.model.specs.Limits.{maxLists, maxShelf}
 use Rattle.model.specs.Outcome.{Outcome, refused, done}
 use Rattle.model.specs.Post.{Post, docs}
@@ -13,29 +13,33 @@ use Rattle.model.specs.Runs.{All, has}
 use Rattle.model.proofs.Lists.{split}
 use Rattle.shelf.specs.Walk.{Listing}
 use Rattle.shelf.specs.Check.{checked}
-use Rattle.list.specs.Write.{Word, Words, listBytes, writing}
+use Rattle.list.specs.Write.{packed, Word, Words, listBytes, writing}
+use Rattle.list.proofs.Writes.{blocks-size, list-bytes}
 use Rattle.change.specs.Edits.{Edit, Set, Clear, Withdraw, clearPost, setWord, unlessEmpty, clearWords, only, every, applied, Termed}
 use Rattle.change.specs.Bytes.{Piece, pieces, joined, contents, anew, setPiece, anewUnlessEmpty, clearPieces, changed, few, edited}
-use Rattle.edit.specs.History.{History, Try, orStay, shelfAfter, ifDone, accepted, addUp}
+use Rattle.convert.specs.Convert.{converted, turnWords}
+use Rattle.convert.proofs.Layouts.{bodies-even}
+use Rattle.convert.proofs.Leaves.{turned-writing}
+use Rattle.edit.specs.History.{Act, Change, Convert, made, does, Named, Try, orStay, shelfAfter, ifDone, accepted, addUp, History}
 use Rattle.change.proofs.Postings.{clear-absent}
-use Rattle.change.proofs.Pieces.{Rises, anew-stands, standing-sound}
-use Rattle.edit.proofs.Changes.{contents-words, changed-rises, rises-words}
+use Rattle.change.proofs.Pieces.{Rises, anew-stands, standing-sound, pieces-hold}
+use Rattle.edit.proofs.Changes.{changed-rises, rises-words}
 use Rattle.edit.proofs.Sounds.{Passed, edited-done}
 
 -- ---- the pieces of one writing
 
 abbrev fresh : List Word → List Piece
 fresh [] = []
-fresh (w ∷ ws) = anew (w .term) (w .posts) ∷ fresh ws
+fresh (w ∷ ws) = anew (w .strip) (w .term) (w .posts) ∷ fresh ws
 
 fresh-rises : (floor : ℕ) (ws : List Word) → Words floor ws → Rises floor (fresh ws)
 fresh-rises floor [] ok = tt
-fresh-rises floor (w ∷ ws) ok = (ok .0, anew-stands (w .term) (w .posts) (ok .1) (ok .2), fresh-rises (w .term + 1) ws (ok .3))
+fresh-rises floor (w ∷ ws) ok = (ok .0, anew-stands (w .strip) (w .term) (w .posts) (ok .1) (ok .2), fresh-rises (w .term + 1) ws (ok .3))
 
 fresh-joined : (ws : List Word) → joined (fresh ws) ≡ writing ws
 unfolding writing
 fresh-joined [] = refl
-fresh-joined (w ∷ ws) = ap {B = List ℕ} (λ t. listBytes (w .term) (w .posts) ++ t) (fresh-joined ws)
+fresh-joined (w ∷ ws) = ap {B = List ℕ} (λ t. listBytes (w .strip) (w .term) (w .posts) ++ t) (fresh-joined ws)
 
 fresh-contents : (ws : List Word) → contents (fresh ws) ≡ ws
 fresh-contents [] = refl
@@ -54,14 +58,14 @@ fresh-set t d w (x ∷ xs) =
     (λ l. rw l)
     (λ l. split (eqb t (x .term)) (λ f. rw (l, f)) (λ f. rw (l, f, fresh-set t d w xs)))
 
-fresh-unless : (t : ℕ) (ps : List Post) (ws : List Word) → anewUnlessEmpty t ps (fresh ws) ≡ fresh (unlessEmpty t ps ws)
-fresh-unless t [] ws = refl
-fresh-unless t (p ∷ ps) ws = refl
+fresh-unless : (strip : Bool) (t : ℕ) (ps : List Post) (ws : List Word) → anewUnlessEmpty strip t ps (fresh ws) ≡ fresh (unlessEmpty strip t ps ws)
+fresh-unless strip t [] ws = refl
+fresh-unless strip t (p ∷ ps) ws = refl
 
-unless-whole : (x : Word) (xs : List Word) → 0 + 1 ≤ length (x .posts) → unlessEmpty (x .term) (x .posts) xs ≡ x ∷ xs
+unless-whole : (x : Word) (xs : List Word) → 0 + 1 ≤ length (x .posts) → unlessEmpty (x .strip) (x .term) (x .posts) xs ≡ x ∷ xs
 unless-whole x xs l = go (x .posts) l
   where
-    go : (ps : List Post) → 0 + 1 ≤ length ps → unlessEmpty (x .term) ps xs ≡ record { term = x .term; posts = ps } ∷ xs
+    go : (ps : List Post) → 0 + 1 ≤ length ps → unlessEmpty (x .strip) (x .term) ps xs ≡ record { term = x .term; posts = ps; strip = x .strip } ∷ xs
     go [] l = absurd (omega arith)
     go (p ∷ ps) l = refl
 
@@ -71,7 +75,7 @@ fresh-clear named floor d (x ∷ xs) ok =
     let ih = fresh-clear named (x .term + 1) d xs (ok .3) in
     split (named (x .term))
     (λ m. split (has d (docs (x .posts)))
-    (λ h. rw (m, h, ih) (fresh-unless (x .term) (clearPost d (x .posts)) (clearWords named d xs)))
+    (λ h. rw (m, h, ih) (fresh-unless (x .strip) (x .term) (clearPost d (x .posts)) (clearWords named d xs)))
     (λ h. rw (m, h, ih, clear-absent d (x .posts) h, unless-whole x (clearWords named d xs) (ok .2 .some))))
     (λ m. rw (m, ih))
 
@@ -118,16 +122,62 @@ packed-edit e s ws room v t k q =
       bytes = sym (p .bytes) ∙ ap joined c ∙ fresh-joined (applied e ws);
     }
 
-packed-after : (es : List Try) (s : List ℕ) (ws : List Word) → All (λ (e : Try). Termed (e .edit)) es → Packed s ws → Packed (shelfAfter es s) (addUp (accepted es s) ws)
-packed-after [] s ws t k = k
-packed-after (e ∷ es) s ws t k = go (edited (e .edit) s (e .room)) refl (λ v us m. packed-after es v us (t .1) m)
-  where
-    go : (r : Outcome (List ℕ)) → edited (e .edit) s (e .room) ≡ r → ((v : List ℕ) (us : List Word) → Packed v us → Packed (shelfAfter es v) (addUp (accepted es v) us)) →
-        Packed (shelfAfter es (orStay s r)) (addUp (ifDone (e .edit) r (accepted es (orStay s r))) ws)
-    go (refused n o) q ih = ih s ws k
-    go (done v) q ih = ih v (applied (e .edit) ws) (packed-edit (e .edit) s ws (e .room) v (t .0) k q)
+-- ---- a conversion of one writing is one writing, as long as before
 
-pub history : (es : List Try) → All (λ (e : Try). Termed (e .edit)) es → History (shelfAfter es []) (addUp (accepted es []) [])
+list-even : (a b : Bool) (t : ℕ) (ps : List Post) → length (listBytes a t ps) ≡ length (listBytes b t ps)
+list-even a b t ps =
+    omega (
+      arith,
+      ap length (list-bytes a t ps),
+      ap length (list-bytes b t ps),
+      blocks-size a t (packed 64 ps),
+      blocks-size b t (packed 64 ps),
+      bodies-even a b (packed 64 ps),
+    )
+
+turned-even : (t : ℕ) (ws : List Word) → length (writing (turnWords t ws)) ≡ length (writing ws)
+unfolding writing
+turned-even t [] = refl
+turned-even t (w ∷ ws) =
+    let own = length-append (listBytes (w .strip) (w .term) (w .posts)) in
+    split (eqb (w .term) t)
+    (λ e. rw e (omega (
+      arith,
+      length-append (listBytes (not (w .strip)) (w .term) (w .posts)) (writing (turnWords t ws)),
+      own (writing ws),
+      list-even (not (w .strip)) (w .strip) (w .term) (w .posts),
+      turned-even t ws,
+    )))
+    (λ e. rw e (omega (arith, own (writing (turnWords t ws)), own (writing ws), turned-even t ws)))
+
+turned-many : (t : ℕ) (ws : List Word) → length (turnWords t ws) ≡ length ws
+turned-many t [] = refl
+turned-many t (w ∷ ws) = split (eqb (w .term) t) (λ e. rw (e, turned-many t ws)) (λ e. rw (e, turned-many t ws))
+
+packed-turn : (t : ℕ) (s : List ℕ) (ws : List Word) (room : ℕ) (v : List ℕ) → Packed s ws → converted t s room ≡ done v → Packed v (turnWords t ws)
+packed-turn t s ws room v k q =
+    let w = turned-writing t s ws room v (k .bytes) (k .words) (k .lists) (omega (arith, k .short, ap length (k .bytes))) q in
+    record {
+      words = w .1;
+      lists = omega (arith, k .lists, turned-many t ws);
+      short = omega (arith, k .short, ap length (k .bytes), ap length (w .0), turned-even t ws);
+      bytes = w .0;
+    }
+
+packed-act : (a : Act) (s : List ℕ) (ws : List Word) (room : ℕ) (v : List ℕ) → Named a → Packed s ws → made a s room ≡ done v → Packed v (does a ws)
+packed-act (Change e) s ws room v t k q = packed-edit e s ws room v t k q
+packed-act (Convert u) s ws room v t k q = packed-turn u s ws room v k q
+
+packed-after : (es : List Try) (s : List ℕ) (ws : List Word) → All (λ (e : Try). Named (e .act)) es → Packed s ws → Packed (shelfAfter es s) (addUp (accepted es s) ws)
+packed-after [] s ws t k = k
+packed-after (e ∷ es) s ws t k = go (made (e .act) s (e .room)) refl (λ v us m. packed-after es v us (t .1) m)
+  where
+    go : (r : Outcome (List ℕ)) → made (e .act) s (e .room) ≡ r → ((v : List ℕ) (us : List Word) → Packed v us → Packed (shelfAfter es v) (addUp (accepted es v) us)) →
+        Packed (shelfAfter es (orStay s r)) (addUp (ifDone (e .act) r (accepted es (orStay s r))) ws)
+    go (refused n o) q ih = ih s ws k
+    go (done v) q ih = ih v (does (e .act) ws) (packed-act (e .act) s ws (e .room) v (t .0) k q)
+
+pub history : (es : List Try) → All (λ (e : Try). Named (e .act)) es → History (shelfAfter es []) (addUp (accepted es []) [])
 unfolding writing
 history es t =
     let k = packed-after es [] [] t (record { words = tt; lists = omega arith; short = omega arith; bytes = refl }) in
@@ -135,7 +185,7 @@ history es t =
     record {
       found = h .found;
       sound = h .sound;
-      holds = sym (contents-words (shelfAfter es []) (h .found)) ∙ ap contents (h .holds) ∙ fresh-contents (addUp (accepted es []) []);
+      holds = sym (pieces-hold (shelfAfter es []) (h .found)) ∙ ap contents (h .holds) ∙ fresh-contents (addUp (accepted es []) []);
       words = k .words;
       bytes = k .bytes;
     }

@@ -14,7 +14,7 @@ use Rattle.model.specs.Post.{Post, postings, docs, scores}
 use Rattle.model.specs.Runs.{has, Stored}
 use Rattle.model.proofs.Lists.{split, or-false, or-assoc, Bytes}
 use Rattle.model.proofs.Storing.{Rest, rest-start, rest-turn, rest-end, rest-room}
-use Rattle.shelf.specs.Walk.{Listing, list, lists, postsOf, blocksAt}
+use Rattle.shelf.specs.Walk.{Listing, list, lists, postsOf, blocksAt, stripOf}
 use Rattle.shelf.specs.Check.{badBody, badLists, checked}
 use Rattle.shelf.specs.Answers.{listOf}
 use Rattle.shelf.specs.declared.walk.Place.{Place}
@@ -30,7 +30,7 @@ use Rattle.change.specs.Edits.{Withdraw, clearPost, every}
 use Rattle.change.specs.Bytes.{Piece, pieceOf, pieces, joined, holds, clearPieces, changed, some, there, few, settled}
 use Rattle.change.specs.Runs.{Runs, Clears}
 use Rattle.change.specs.Seat.{packedBytes, fitting, May, Wide}
-use Rattle.edit.specs.Left.{postsAt, Sought, Sized, leftBytes, LeftOf, Measures}
+use Rattle.edit.specs.Left.{postsAt, layoutAt, Sought, Sized, leftBytes, LeftOf, Measures}
 use Rattle.edit.specs.declared.withdraw.Left.{Left}
 use Rattle.change.proofs.Postings.{may-fit, clear-fit, clear-length}
 use Rattle.change.proofs.Runnings.{postings-own}
@@ -60,15 +60,16 @@ module _ {s : List ℕ} {p : Place} {n : ℕ} {ds ss d1 s1 : List ℕ} (z : Size
         let g = clear-fit d (postsAt s p) (may-fit (postsAt s p) (z .may)) h in
         record { some = g .some; few = omega (arith, clear-length d (postsAt s p), z .may .few); rise = g .rise; scores = g .scores; last = g .last })
 
-    pub left-new : (t : ℕ) → packedBytes t (postings (firsts m d2) (firsts m s2)) ≡ packedBytes t (clearPost d (postsAt s p))
-    left-new t = ap (λ (x : List Post). packedBytes t x) (runs-postings d2 s2 m (clearPost d (postsAt s p)) left-runs)
+    pub left-new : (strip : Bool) (t : ℕ) → packedBytes strip t (postings (firsts m d2) (firsts m s2)) ≡ packedBytes strip t (clearPost d (postsAt s p))
+    left-new strip t = ap (λ (x : List Post). packedBytes strip t x) (runs-postings d2 s2 m (clearPost d (postsAt s p)) left-runs)
+
+    -- they are packed in the list's own layout
+    pub left-anew : (strip : Bool) → strip ≡ layoutAt s p → has d (docs (postsAt s p)) ≡ true → packedBytes strip (p .term) (postings (firsts m d2) (firsts m s2)) ≡ leftBytes s p d
+    left-anew strip e h = rw (e, h) (left-new (layoutAt s p) (p .term))
 
 module _ (s : List ℕ) (p : Place) (d : ℕ) where
   pub left-as-was : has d (docs (postsAt s p)) ≡ false → leftBytes s p d ≡ take (p .next - p .at) (drop (p .at) s)
   left-as-was h = rw h
-
-  pub left-anew : has d (docs (postsAt s p)) ≡ true → leftBytes s p d ≡ packedBytes (p .term) (clearPost d (postsAt s p))
-  left-anew h = rw h
 
   was-length : p .at ≤ p .next → p .next ≤ length s → length (take (p .next - p .at) (drop (p .at) s)) ≡ p .next - p .at
   was-length o i = length-take-le (p .next - p .at) (drop (p .at) s) (omega (arith, length-drop (p .at) s))
@@ -76,7 +77,7 @@ module _ (s : List ℕ) (p : Place) (d : ℕ) where
   pub left-none : p .at ≤ p .next → p .next ≤ length s → has d (docs (postsAt s p)) ≡ false → LeftOf s p d (record { bytes = p .next - p .at; held = false })
   left-none o i h = record { bytes = rw h (sym (was-length o i)); held = sym h }
 
-  pub left-some : (r : ℕ) → has d (docs (postsAt s p)) ≡ true → r ≡ length (packedBytes (p .term) (clearPost d (postsAt s p))) → LeftOf s p d (record { bytes = r; held = true })
+  pub left-some : (r : ℕ) → has d (docs (postsAt s p)) ≡ true → r ≡ length (packedBytes (layoutAt s p) (p .term) (clearPost d (postsAt s p))) → LeftOf s p d (record { bytes = r; held = true })
   left-some r h e = record { bytes = rw h e; held = sym h }
 
   pub kept-room : (at room : ℕ) → p .at ≤ p .next → p .next ≤ length s → has d (docs (postsAt s p)) ≡ false → at + length (leftBytes s p d) ≤ room → at + (p .next - p .at) ≤ room
@@ -87,7 +88,7 @@ module _ (s : List ℕ) (p : Place) (d : ℕ) where
       split (has d (docs (postsAt s p)))
       (λ h.
       let ps = clearPost d (postsAt s p) in
-      let l : length (packedBytes (p .term) ps) ≤ 45768 = rw (postings-own ps) at (new-small (p .term) (docs ps) (scores ps)) in
+      let l : length (packedBytes (layoutAt s p) (p .term) ps) ≤ 45768 = rw (postings-own ps) at (new-small (layoutAt s p) (p .term) (docs ps) (scores ps)) in
       rw h (omega arith))
       (λ h. rw h (omega (arith, was-length o i)))
 
@@ -110,13 +111,13 @@ pub record Goes (s : List ℕ) (d : ℕ) (rest : List Listing) (p : Place) : Typ
   pub bytes : joined (clearPieces every d (pieces s rest)) ≡ leftBytes s p d ++ joined (clearPieces every d (pieces s more))
   pub seen : some (holds every d) (pieces s rest) ≡ (has d (docs (postsAt s p)) || some (holds every d) (pieces s more))
 
-first-bytes : (s : List ℕ) (d : ℕ) (x : Piece) (p : Place) (xs : List Piece) → x .term ≡ p .term → x .posts ≡ postsAt s p → x .bytes ≡ take (p .next - p .at) (drop (p .at) s) →
+first-bytes : (s : List ℕ) (d : ℕ) (x : Piece) (p : Place) (xs : List Piece) → x .term ≡ p .term → x .posts ≡ postsAt s p → x .strip ≡ layoutAt s p → x .bytes ≡ take (p .next - p .at) (drop (p .at) s) →
     joined (clearPieces every d (x ∷ xs)) ≡ leftBytes s p d ++ joined (clearPieces every d xs)
-first-bytes s d x p xs t ps bs =
+first-bytes s d x p xs t ps lay bs =
     split (has d (docs (postsAt s p)))
     (λ h.
     let g : has d (docs (x .posts)) ≡ true = rw ps h in
-    rw (g, h, ps, t) (joined-unless (p .term) (clearPost d (postsAt s p)) (clearPieces every d xs)))
+    rw (g, h, ps, lay, t) (joined-unless (layoutAt s p) (p .term) (clearPost d (postsAt s p)) (clearPieces every d xs)))
     (λ h.
     let g : has d (docs (x .posts)) ≡ false = rw ps h in
     rw (g, h, bs))
@@ -145,7 +146,7 @@ going-on floor at s d (l ∷ ms) p g lt q =
         order = omega (arith, w .start, w .above);
         inside = w .within;
       };
-      bytes = first-bytes s d (pieceOf s l) (l .place) (pieces s ms) refl ps refl;
+      bytes = first-bytes s d (pieceOf s l) (l .place) (pieces s ms) refl ps (ap stripOf bl) refl;
       seen = rw ps;
     })
 
@@ -235,7 +236,7 @@ clear-few named d (x ∷ xs) f =
     split (holds named d x)
     (λ e.
     let qs = clearPost d (x .posts) in
-    rw e (few-unless (x .term) qs (clearPieces named d xs) (ih .0) (omega (arith, clear-length d (x .posts))), omega (arith, length-unless (x .term) qs (clearPieces named d xs), ih .1)))
+    rw e (few-unless (x .strip) (x .term) qs (clearPieces named d xs) (ih .0) (omega (arith, clear-length d (x .posts))), omega (arith, length-unless (x .strip) (x .term) qs (clearPieces named d xs), ih .1)))
     (λ e. rw (e, t) (ih .0, omega (arith, ih .1))))
     (λ t. let z : false ≡ true = rw t at f in absurd (false≢true z))
 

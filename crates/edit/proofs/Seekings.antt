@@ -17,6 +17,7 @@ use Rattle.block.specs.Cursor.{fresh, stepAt, runAt}
 use Rattle.block.specs.declared.summary.Summary.{Summary}
 use Rattle.block.specs.declared.cursor.Cursor.{Cursor}
 use Rattle.block.specs.declared.cursor.Step.the-variants.{Posting}
+use Rattle.block.proofs.Bodies.{front, back, run-fresh}
 use Rattle.block.proofs.Steps.{run-posting}
 use Rattle.block.proofs.Contents.{right-run}
 use Rattle.shelf.specs.Walk.{Block, blocksAt, postsOf}
@@ -71,25 +72,25 @@ seek-none {d} e k = k .same ∙ ap (λ (l : List Post). has d (docs l)) e
 
 -- ---- a body's postings, by the cursor's steps
 
-fresh-run : (m : Summary) (s : List ℕ) (c : Cursor) → c ≡ fresh m → runAt s c ≡ bodyRun m s
-unfolding bodyRun runAt fresh
-fresh-run m s c e = rw e
+module _ (d : ℕ) (m : Summary) (s g w : List ℕ) (c : Cursor) (a : g ≡ front m s) (b : w ≡ back m s) (e : c ≡ fresh m) where
+  start-run : runAt g w c ≡ bodyRun m s
+  start-run = rw (a, b, e) (sym (run-fresh m s))
 
-pub body-all : (d : ℕ) (m : Summary) (s : List ℕ) (c : Cursor) → c ≡ fresh m → has d (docs (runAt s c)) ≡ has d (docs (bodyRun m s))
-body-all d m s c e = ap (λ (l : List Post). has d (docs l)) (fresh-run m s c e)
+  pub body-all : has d (docs (runAt g w c)) ≡ has d (docs (bodyRun m s))
+  body-all = ap (λ (l : List Post). has d (docs l)) start-run
 
-pub body-start : (d : ℕ) (m : Summary) (s : List ℕ) (c : Cursor) → c ≡ fresh m → Rising 0 (bodyRun m s) → Seeking d (runAt s c) (runAt s c)
-body-start d m s c e r = record { rise = rw (fresh-run m s c e) r; same = refl }
+  pub body-start : Rising 0 (bodyRun m s) → Seeking d (runAt g w c) (runAt g w c)
+  body-start r = record { rise = rw start-run r; same = refl }
 
-module _ {d : ℕ} {all : List Post} (s : List ℕ) (c : Cursor) (x w : ℕ) (next : Cursor) (e : stepAt s c ≡ Posting x w next) (k : Seeking d all (runAt s c)) where
-  one : runAt s c ≡ (post x w ∷ []) ++ runAt s next
-  one = run-posting s c x w next e
+module _ {d : ℕ} {all : List Post} (g w : List ℕ) (c : Cursor) (x y : ℕ) (next : Cursor) (e : stepAt g w c ≡ Posting x y next) (k : Seeking d all (runAt g w c)) where
+  one : runAt g w c ≡ (post x y ∷ []) ++ runAt g w next
+  one = run-posting g w c x y next e
 
-  pub body-on : x < d → Seeking d all (runAt s next)
-  body-on l = seek-on (post x w ∷ []) (runAt s next) one k l
+  pub body-on : x < d → Seeking d all (runAt g w next)
+  body-on l = seek-on (post x y ∷ []) (runAt g w next) one k l
 
   pub body-here : d ≤ x → has d (docs all) ≡ eqb d x
-  body-here l = seek-here (post x w ∷ []) (runAt s next) one k l ∙ or-false (eqb d x)
+  body-here l = seek-here (post x y ∷ []) (runAt g w next) one k l ∙ or-false (eqb d x)
 
 -- ---- a list's postings, block after block
 

@@ -1,5 +1,5 @@
 -- What the seat of a term in a sound shelf gives the code: its postings may be written again, and its bytes lie in the shelf. Assumes nothing.
-use Prim.Native.Nat.{ℕ, _-_, _≤_, _<_}
+use Prim.Native.Nat.{ℕ, zero, suc, _-_, _≤_, _<_}
 use native.Mathlib.Omega.{arith}
 use mathlib.Core.Path.{_≡_, refl, sym, ap, subst, _∙_}
 use mathlib.Core.List.{List, [], _∷_}
@@ -13,7 +13,7 @@ use Rattle.model.specs.Outcome.{Outcome, refused, done}
 use Rattle.model.specs.Post.{Post, postings, docs, Rising}
 use Rattle.model.specs.Runs.{has}
 use Rattle.model.proofs.Lists.{split, Bytes}
-use Rattle.shelf.specs.Walk.{Listing, postsOf, blocksAt}
+use Rattle.shelf.specs.Walk.{Listing, postsOf, blocksAt, blocksOf}
 use Rattle.shelf.specs.Check.{checked, judged}
 use Rattle.list.specs.Write.{Writable}
 use Rattle.list.specs.Answer.{Gives}
@@ -22,7 +22,7 @@ use Rattle.list.proofs.Pours.{right-count}
 use Rattle.change.specs.Edits.{Set, Clear, setPost, clearPost}
 use Rattle.change.specs.Bytes.{pieces, inRange, settled}
 use Rattle.change.specs.Runs.{Runs, Clears, Inserts}
-use Rattle.change.specs.Seat.{seatOf, heldBy, Fills, Holds, seatAt, seatNext, placed, Placeable, May, Wide}
+use Rattle.change.specs.Seat.{seatOf, heldBy, Fills, Holds, seatAt, seatNext, placed, Stood, Placeable, May, Wide}
 use Rattle.change.specs.declared.seat.Seat.{Seat}
 use Rattle.change.specs.declared.seat.Seat.the-variants.{Taken, Free}
 use Rattle.change.proofs.Postings.{Fit, may-fit, one-fit, set-fit, clear-fit, clear-absent, clear-length, clear-same, clear-fewer, clear-rise}
@@ -30,11 +30,6 @@ use Rattle.change.proofs.Runnings.{runs-front, runs-length, rising-free, set-fi
 use Rattle.change.proofs.Pieces.{checked-sound}
 use Rattle.edit.proofs.Changes.{set-ranged}
 use Rattle.edit.proofs.Splices.{seat-taken, seat-free, settled-set, settled-clear}
-
--- a shelf in which the checker finds nothing has lists
-pub judged-lists : (r : Outcome (List Listing)) → judged r ≡ done tt → (ls : List Listing) × (r ≡ done ls)
-judged-lists (refused n o) e = let z : _≡_ {A = ℕ} 0 1 = cc in absurd (omega arith)
-judged-lists (done ls) e = (ls, refl)
 
 -- ---- postings with one taken out and put in again
 
@@ -65,6 +60,13 @@ pub record Sits (s : List ℕ) (seat : Seat) : Type 0 where
   pub order : seatAt seat ≤ seatNext seat
   pub inside : seatNext seat ≤ length s
   pub short : length s ≤ maxShelf
+  pub stood : Stood seat
+
+-- a list that has postings has blocks
+pub count-some : (s : List ℕ) (at n : ℕ) → 0 < length (postsOf (blocksAt s at n)) → 0 < n
+unfolding blocksAt blocksOf
+count-some s at zero h = h
+count-some s at (suc n) h = omega arith
 
 pub sits : (s : List ℕ) (ls : List Listing) → Bytes s → checked s ≡ done ls → (t : ℕ) (seat : Seat) → seat ≡ seatOf t 0 ls → Sits s seat
 sits s ls b e t (Taken p) q =
@@ -78,6 +80,7 @@ sits s ls b e t (Taken p) q =
       order = k .order;
       inside = k .inside;
       short = checked-sound s ls e .short;
+      stood = (count-some s (p .at) (p .count) (k .may .some), omega (arith, k .ready .room, checked-sound s ls e .short));
     }
 sits s ls b e t (Free a) q =
     let k = seat-free s ls b e t a (sym q) in
@@ -89,6 +92,7 @@ sits s ls b e t (Free a) q =
       order = omega arith;
       inside = k .inside;
       short = checked-sound s ls e .short;
+      stood = tt;
     }
 
 -- ---- the runs that are packed anew
@@ -116,6 +120,7 @@ runs-placeable s seat ds ss k ps z r f =
     let lw : length (firsts k ss) ≡ k = ap length (firsts-take k ss) ∙ length-take-le k ss (r .wide) in
     let n = runs-length ds ss k ps r in
     record {
+      stood = z .stood;
       short = z .short;
       order = z .order;
       inside = z .inside;

@@ -23,8 +23,8 @@ use Rattle.list.proofs.Shelves.{sound-words}
 use Rattle.change.specs.Edits.{Edit, applied, stored, touches, leftScore, Termed}
 use Rattle.edit.specs.Leaves.{Leaves, Capped}
 use Rattle.change.specs.Bytes.{bytesFor, repacks, Piece, pieces, joined, contents, changed, inRange, there, few, within, settled, edited}
-use Rattle.change.proofs.Pieces.{Rises, checked-sound, sound-rises, standing-sound}
-use Rattle.edit.proofs.Changes.{contents-words, changed-rises, changed-contents, changed-copies}
+use Rattle.change.proofs.Pieces.{Rises, checked-sound, sound-rises, standing-sound, pieces-hold}
+use Rattle.edit.proofs.Changes.{changed-rises, changed-contents, changed-copies}
 use Rattle.change.proofs.Postings.{words-ordered, stored-applied}
 
 -- ---- what an accepted edit passed
@@ -81,7 +81,7 @@ leaves e s old room v t g r p =
       new = f .0;
       sound = f .1;
       kept = f .2;
-      holds = sym (contents-words v (f .0)) ∙ ap contents (f .2) ∙ changed-contents e xs r ∙ ap (λ (ws : List Word). applied e ws) (contents-words s old);
+      holds = sym (pieces-hold v (f .0)) ∙ ap contents (f .2) ∙ changed-contents e xs r ∙ ap (λ (ws : List Word). applied e ws) (pieces-hold s old);
     }
 
 pub edit-sound : (e : Edit) (s : List ℕ) (old : List Listing) (room : ℕ) (v : List ℕ) → Termed e → Bytes s → checked s ≡ done old → edited e s room ≡ done v → Leaves e s old v

@@ -13,7 +13,7 @@ use Rattle.model.specs.Outcome.{refused, done}
 use Rattle.model.specs.Post.{Post, post, docs}
 use Rattle.model.specs.Runs.{All, has}
 use Rattle.model.proofs.Lists.{split, or-false, All-map, Bytes}
-use Rattle.shelf.specs.Walk.{Listing, list, lists, postsOf, blocksAt}
+use Rattle.shelf.specs.Walk.{Listing, list, lists, postsOf, blocksAt, stripOf}
 use Rattle.shelf.specs.Check.{badBody, badLists, checked}
 use Rattle.shelf.specs.Answers.{Ready}
 use Rattle.shelf.specs.declared.walk.Place.{Place}
@@ -43,6 +43,7 @@ pub record Taking (s : List ℕ) (ls : List Listing) (at t : ℕ) (p : Place) : 
   pub high : All (λ (x : Piece). t < x .term) after
   pub term : here .term ≡ t
   pub posts : here .posts ≡ postsOf (blocksAt s (p .at) (p .count))
+  pub layout : here .strip ≡ stripOf (blocksAt s (p .at) (p .count))
   pub front : take at s ++ joined before ≡ take (p .at) s
   pub back : joined after ≡ drop (p .next) s
   pub ready : Ready s p
@@ -105,6 +106,7 @@ taken n floor at t s (l ∷ ms) p e b g q =
       high = words-high (l .place .term + 1) t s ms (omega arith) (g .3);
       term = sym tt1;
       posts = ap {B = List Post} postsOf bl;
+      layout = ap stripOf bl;
       front = rw (w .start) (bytes-none (take at s));
       back = pieces-joined (n - 1) (l .place .term + 1) (l .place .next) s ms (i .left);
       ready = w .ready;
@@ -125,6 +127,7 @@ taken n floor at t s (l ∷ ms) p e b g q =
       high = r .high;
       term = r .term;
       posts = r .posts;
+      layout = r .layout;
       front = past-list floor at s l (r .before) (p .at) (i .reads) (r .front);
       back = r .back;
       ready = r .ready;
@@ -214,13 +217,13 @@ settled-as e xs ys room v ok h c f j =
     (λ a. rw a))
 
 set-at : (t d w : ℕ) (before : List Piece) (x : Piece) (after : List Piece) → All (λ (y : Piece). y .term < t) before → x .term ≡ t →
-    setPiece t d w (before ++ x ∷ after) ≡ before ++ anew t (setPost d w (x .posts)) ∷ after
+    setPiece t d w (before ++ x ∷ after) ≡ before ++ anew (x .strip) t (setPost d w (x .posts)) ∷ after
 set-at t d w [] x after low e = rw (le-ltb t (x .term) (omega arith), eq-eqb t (x .term) (sym e))
 set-at t d w (y ∷ ys) x after low e =
     rw (le-ltb t (y .term) (omega (arith, low .0)), ne-eqb t (y .term) (λ (z : t ≡ y .term). omega (arith, low .0)), set-at t d w ys x after (low .1) e)
 
 set-new : (t d w : ℕ) (before after : List Piece) → All (λ (y : Piece). y .term < t) before → All (λ (y : Piece). t < y .term) after →
-    setPiece t d w (before ++ after) ≡ before ++ anew t (post d w ∷ []) ∷ after
+    setPiece t d w (before ++ after) ≡ before ++ anew false t (post d w ∷ []) ∷ after
 set-new t d w [] [] low high = refl
 set-new t d w [] (x ∷ after) low high = rw (lt-ltb t (x .term) (high .0))
 set-new t d w (y ∷ ys) after low high =
@@ -255,21 +258,21 @@ module _ (t d : ℕ) where
   clear-past (x ∷ xs) ys o = rw (ne-eqb (x .term) t (o .0), clear-past xs ys (o .1))
 
   clear-at : (before : List Piece) (x : Piece) (after : List Piece) → All (λ (y : Piece). y .term ≡ t → ⊥) before → All (λ (y : Piece). y .term ≡ t → ⊥) after → x .term ≡ t → has d (docs (x .posts)) ≡ true →
-      clearPieces (only t) d (before ++ x ∷ after) ≡ before ++ anewUnlessEmpty t (clearPost d (x .posts)) after
+      clearPieces (only t) d (before ++ x ∷ after) ≡ before ++ anewUnlessEmpty (x .strip) t (clearPost d (x .posts)) after
   clear-at before x after o h e f =
       clear-past before (x ∷ after) o ∙ rw (eq-eqb (x .term) t e, f, clear-other after h, e)
 
-pub joined-unless : (t : ℕ) (ps : List Post) (after : List Piece) → joined (anewUnlessEmpty t ps after) ≡ packedBytes t ps ++ joined after
-joined-unless t [] after = refl
-joined-unless t (p ∷ ps) after = refl
+pub joined-unless : (strip : Bool) (t : ℕ) (ps : List Post) (after : List Piece) → joined (anewUnlessEmpty strip t ps after) ≡ packedBytes strip t ps ++ joined after
+joined-unless strip t [] after = refl
+joined-unless strip t (p ∷ ps) after = refl
 
-pub few-unless : (t : ℕ) (ps : List Post) (after : List Piece) → few after ≡ true → length ps ≤ maxPostings → few (anewUnlessEmpty t ps after) ≡ true
-few-unless t [] after f h = f
-few-unless t (p ∷ ps) after f h = rw (le-leb (length (p ∷ ps)) 6400 h) f
+pub few-unless : (strip : Bool) (t : ℕ) (ps : List Post) (after : List Piece) → few after ≡ true → length ps ≤ maxPostings → few (anewUnlessEmpty strip t ps after) ≡ true
+few-unless strip t [] after f h = f
+few-unless strip t (p ∷ ps) after f h = rw (le-leb (length (p ∷ ps)) 6400 h) f
 
-pub length-unless : (t : ℕ) (ps : List Post) (after : List Piece) → length (anewUnlessEmpty t ps after) ≤ suc (length after)
-length-unless t [] after = omega arith
-length-unless t (p ∷ ps) after = omega arith
+pub length-unless : (strip : Bool) (t : ℕ) (ps : List Post) (after : List Piece) → length (anewUnlessEmpty strip t ps after) ≤ suc (length after)
+length-unless strip t [] after = omega arith
+length-unless strip t (p ∷ ps) after = omega arith
 
 -- ---- the settled edits, by the seat of their term
 
@@ -282,12 +285,12 @@ pieces-length s [] = refl
 pieces-length s (l ∷ ls) = ap suc (pieces-length s ls)
 
 -- a list packed anew between others that are few
-few-between : (before after : List Piece) (t : ℕ) (ps : List Post) → few before ≡ true → few after ≡ true → few (before ++ anew t ps ∷ after) ≡ leb (length ps) maxPostings
-few-between before after t ps f g = few-append before (anew t ps ∷ after) f ∙ and-right (leb (length ps) maxPostings) (few after) g
+few-between : (strip : Bool) (before after : List Piece) (t : ℕ) (ps : List Post) → few before ≡ true → few after ≡ true → few (before ++ anew strip t ps ∷ after) ≡ leb (length ps) maxPostings
+few-between strip before after t ps f g = few-append before (anew strip t ps ∷ after) f ∙ and-right (leb (length ps) maxPostings) (few after) g
 
-packed-some : (t : ℕ) (ps : List Post) → 0 < length ps → packedBytes t ps ≡ listBytes t ps
-packed-some t [] h = absurd (omega arith)
-packed-some t (p ∷ ps) h = refl
+packed-some : (strip : Bool) (t : ℕ) (ps : List Post) → 0 < length ps → packedBytes strip t ps ≡ listBytes strip t ps
+packed-some strip t [] h = absurd (omega arith)
+packed-some strip t (p ∷ ps) h = refl
 
 module _ (s : List ℕ) (ls : List Listing) (b : Bytes s) (e : checked s ≡ done ls) (t d : ℕ) (room : ℕ) where
   all-few : few (pieces s ls) ≡ true
@@ -299,30 +302,31 @@ module _ (s : List ℕ) (ls : List Listing) (b : Bytes s) (e : checked s ≡ don
       let ps = postsOf (blocksAt s (p .at) (p .count)) in
       let before = k .before in
       let after = k .after in
-      let z = anew t (setPost d w ps) in
+      let lay = stripOf (blocksAt s (p .at) (p .count)) in
+      let z = anew lay t (setPost d w ps) in
       let split2 = few-front before (k .here ∷ after) (rw (k .is) at all-few) in
       let after-few = few-front (k .here ∷ []) after (split2 .1) .1 in
-      let c : setPiece t d w (pieces s ls) ≡ before ++ z ∷ after = rw (k .is, set-at t d w before (k .here) after (k .low) (k .term), k .posts) in
+      let c : setPiece t d w (pieces s ls) ≡ before ++ z ∷ after = rw (k .is, set-at t d w before (k .here) after (k .low) (k .term), k .posts, k .layout) in
       let size : length (before ++ z ∷ after) ≡ length ls = omega (arith, length-append before (z ∷ after), length-append before (k .here ∷ after), ap length (k .is), pieces-length s ls) in
       let front : joined before ≡ take (p .at) s = k .front in
-      let bytes : joined (before ++ z ∷ after) ≡ spliced s (p .at) (p .next) (packedBytes t (setPost d w ps)) =
-      rw (joined-append before (z ∷ after), front, k .back, packed-some t (setPost d w ps) (set-some d w ps)) in
-      settled-as (Set t d w) (pieces s ls) (before ++ z ∷ after) room (spliced s (p .at) (p .next) (packedBytes t (setPost d w ps)))
-      (leb (length (setPost d w ps)) maxPostings && leb (length ls) maxLists) refl c (rw (few-between before after t (setPost d w ps) (split2 .0) after-few, size)) bytes
+      let bytes : joined (before ++ z ∷ after) ≡ spliced s (p .at) (p .next) (packedBytes lay t (setPost d w ps)) =
+      rw (joined-append before (z ∷ after), front, k .back, packed-some lay t (setPost d w ps) (set-some d w ps)) in
+      settled-as (Set t d w) (pieces s ls) (before ++ z ∷ after) room (spliced s (p .at) (p .next) (packedBytes lay t (setPost d w ps)))
+      (leb (length (setPost d w ps)) maxPostings && leb (length ls) maxLists) refl c (rw (few-between lay before after t (setPost d w ps) (split2 .0) after-few, size)) bytes
 
   set-free : (w a : ℕ) → Freeing s ls 0 t a → settled (Set t d w) (pieces s ls) room ≡ placed s (length ls) (Free a) t (setPost d w []) room
   unfolding changed there placed
   set-free w a k =
       let before = k .before in
       let after = k .after in
-      let z = anew t (post d w ∷ []) in
+      let z = anew false t (post d w ∷ []) in
       let split2 = few-front before after (rw (k .is) at all-few) in
       let c : setPiece t d w (pieces s ls) ≡ before ++ z ∷ after = rw (k .is) (set-new t d w before after (k .low) (k .high)) in
       let size : length (before ++ z ∷ after) ≡ suc (length ls) = omega (arith, length-append before (z ∷ after), length-append before after, ap length (k .is), pieces-length s ls) in
       let front : joined before ≡ take a s = k .front in
-      let bytes : joined (before ++ z ∷ after) ≡ spliced s a a (packedBytes t (post d w ∷ [])) = rw (joined-append before (z ∷ after), front, k .back) in
-      settled-as (Set t d w) (pieces s ls) (before ++ z ∷ after) room (spliced s a a (packedBytes t (post d w ∷ [])))
-      (leb (length (post d w ∷ [])) maxPostings && leb (suc (length ls)) maxLists) refl c (rw (few-between before after t (post d w ∷ []) (split2 .0) (split2 .1), size)) bytes
+      let bytes : joined (before ++ z ∷ after) ≡ spliced s a a (packedBytes false t (post d w ∷ [])) = rw (joined-append before (z ∷ after), front, k .back) in
+      settled-as (Set t d w) (pieces s ls) (before ++ z ∷ after) room (spliced s a a (packedBytes false t (post d w ∷ [])))
+      (leb (length (post d w ∷ [])) maxPostings && leb (suc (length ls)) maxLists) refl c (rw (few-between false before after t (post d w ∷ []) (split2 .0) (split2 .1), size)) bytes
 
   pub settled-set : (w : ℕ) (seat : Seat) → seat ≡ seatOf t 0 ls → settled (Set t d w) (pieces s ls) room ≡ placed s (length ls) seat t (setPost d w (heldBy s seat)) room
   settled-set w (Taken p) q = set-taken w p (seat-taken s ls b e t p (sym q))
@@ -334,6 +338,7 @@ module _ (s : List ℕ) (ls : List Listing) (b : Bytes s) (e : checked s ≡ don
   clear-taken p k =
       let ps = postsOf (blocksAt s (p .at) (p .count)) in
       let qs = clearPost d ps in
+      let lay = stripOf (blocksAt s (p .at) (p .count)) in
       let before = k .before in
       let after = k .after in
       let low : All (λ (x : Piece). x .term ≡ t → ⊥) before = All-map before (λ (x : Piece) (l : x .term < t) (z : x .term ≡ t). omega arith) (k .low) in
@@ -341,19 +346,19 @@ module _ (s : List ℕ) (ls : List Listing) (b : Bytes s) (e : checked s ≡ don
       let is-there : some (holds (only t) d) (pieces s ls) ≡ has d (docs ps) = rw (k .is, ← k .posts) (some-at t d before (k .here) after low high (k .term)) in
       split (has d (docs ps))
       (λ h.
-      let ys = before ++ anewUnlessEmpty t qs after in
+      let ys = before ++ anewUnlessEmpty lay t qs after in
       let two = few-front before (k .here ∷ after) (rw (k .is) at all-few) in
       let after-few = few-front (k .here ∷ []) after (two .1) .1 in
       let short : length qs ≤ maxPostings = omega (arith, clear-length d ps, k .may .few) in
       let held : has d (docs (k .here .posts)) ≡ true = rw (k .posts) h in
-      let c : clearPieces (only t) d (pieces s ls) ≡ ys = rw (k .is, ← k .posts) (clear-at t d before (k .here) after low high (k .term) held) in
+      let c : clearPieces (only t) d (pieces s ls) ≡ ys = rw (k .is, ← k .posts, ← k .layout) (clear-at t d before (k .here) after low high (k .term) held) in
       let most : length ls ≤ maxLists = sound-lists s ls e in
-      let size : length ys ≤ maxLists = omega (arith, length-append before (anewUnlessEmpty t qs after), length-append before (k .here ∷ after), ap length (k .is), pieces-length s ls, length-unless t qs after) in
+      let size : length ys ≤ maxLists = omega (arith, length-append before (anewUnlessEmpty lay t qs after), length-append before (k .here ∷ after), ap length (k .is), pieces-length s ls, length-unless lay t qs after) in
       let front : joined before ≡ take (p .at) s = k .front in
-      let bytes : joined ys ≡ spliced s (p .at) (p .next) (packedBytes t qs) = rw (joined-append before (anewUnlessEmpty t qs after), joined-unless t qs after, front, k .back) in
-      let ok : (few ys && leb (length ys) maxLists) ≡ true = rw (few-append before (anewUnlessEmpty t qs after) (two .0), few-unless t qs after after-few short, le-leb (length ys) 1024 size) in
+      let bytes : joined ys ≡ spliced s (p .at) (p .next) (packedBytes lay t qs) = rw (joined-append before (anewUnlessEmpty lay t qs after), joined-unless lay t qs after, front, k .back) in
+      let ok : (few ys && leb (length ys) maxLists) ≡ true = rw (few-append before (anewUnlessEmpty lay t qs after) (two .0), few-unless lay t qs after after-few short, le-leb (length ys) 1024 size) in
       rw (h, le-leb (length qs) 6400 short, le-leb (length ls) 1024 most)
-      (settled-as (Clear t d) (pieces s ls) ys room (spliced s (p .at) (p .next) (packedBytes t qs)) true (is-there ∙ h) c ok bytes))
+      (settled-as (Clear t d) (pieces s ls) ys room (spliced s (p .at) (p .next) (packedBytes lay t qs)) true (is-there ∙ h) c ok bytes))
       (λ h. rw h (settled-none (Clear t d) (pieces s ls) room (is-there ∙ h)))
 
   clear-free : (a : ℕ) → Freeing s ls 0 t a → settled (Clear t d) (pieces s ls) room ≡ refused 12 0

@@ -2,11 +2,11 @@
 use Prim.Native.Nat.{ℕ, _-_}
 use mathlib.Core.Path.{_≡_}
 use mathlib.Core.List.{List}
-use mathlib.Core.Bool.{cond}
+use mathlib.Core.Bool.{Bool, cond}
 use lib.ListN.{length, take, drop}
 use Rattle.model.specs.Post.{Post, docs, Rising}
 use Rattle.model.specs.Runs.{has}
-use Rattle.shelf.specs.Walk.{Listing, postsOf, blocksAt}
+use Rattle.shelf.specs.Walk.{Listing, postsOf, stripOf, blocksAt}
 use Rattle.shelf.specs.Check.{badBody}
 use Rattle.shelf.specs.Answers.{Ready}
 use Rattle.shelf.specs.declared.walk.Place.{Place}
@@ -21,6 +21,10 @@ use Rattle.edit.specs.declared.withdraw.Left.{Left}
 
 abbrev pub postsAt : List ℕ → Place → List Post
 postsAt s p = postsOf (blocksAt s (p .at) (p .count))
+
+-- the layout of its bodies
+abbrev pub layoutAt : List ℕ → Place → Bool
+layoutAt s p = stripOf (blocksAt s (p .at) (p .count))
 
 -- a list of a sound shelf, as far as a docid is sought in it
 pub record Sought (s : List ℕ) (p : Place) : Type 0 where
@@ -37,7 +41,7 @@ pub record Sized (s : List ℕ) (p : Place) (ds ss : List ℕ) : Type 0 where
 
 -- a list's bytes with docid d cleared: as they stand where it does not hold it
 abbrev pub leftBytes : List ℕ → Place → (d : ℕ) → List ℕ
-leftBytes s p d = cond (has d (docs (postsAt s p))) (packedBytes (p .term) (clearPost d (postsAt s p))) (take (p .next - p .at) (drop (p .at) s))
+leftBytes s p d = cond (has d (docs (postsAt s p))) (packedBytes (layoutAt s p) (p .term) (clearPost d (postsAt s p))) (take (p .next - p .at) (drop (p .at) s))
 
 pub record LeftOf (s : List ℕ) (p : Place) (d : ℕ) (r : Left) : Type 0 where
   pub bytes : r .bytes ≡ length (leftBytes s p d)

@@ -16,9 +16,12 @@ fn body_holds(s: &[u8], m: Summary, d: u32) -> bool
     requires { ⌜ Rising 0 (bodyRun m (now s)) ⌝ }
     ensures { λ r. ⌜ r ≡ has d (docs (bodyRun m (now (s .entry)))) ⌝ }
 {
+    let e = block::body::edge(s, m);
+    let gaps = &s[0..e];
+    let points = &s[e..];
     let mut c = Cursor::new(m);
     loop {
-        match c.next(s) {
+        match c.next(gaps, points) {
             Step::Posting(doc, points, onward) => {
                 if d <= doc {
                     return d == doc;
@@ -28,7 +31,7 @@ fn body_holds(s: &[u8], m: Summary, d: u32) -> bool
             Step::End => {
                 return false;
             }
-            Step::Bad(place) => {
+            Step::Bad => {
                 return false;
             }
         }

@@ -12,6 +12,7 @@ ghost use Rattle.change.specs.Edits.{Withdraw, every};
 ghost use Rattle.change.specs.Bytes.{pieces, joined, clearPieces, settled};
 ghost use Rattle.change.specs.Seat.{Sounds, Wide};
 ghost use Rattle.edit.specs.Left.{Sized, LeftOf, leftBytes, Measures};
+use change::seat::Seat;
 use list::answer::Answer;
 use shelf::walk::ListRead;
 use shelf::walk::Place;
@@ -62,7 +63,8 @@ fn put_left(
     let n = list::read::fill(s, list, docs, scores);
     let m = change::runs::without(docs, scores, n, d);
     let term = list.term;
-    change::splice::put_new(out, at, term, &docs[0..m], &scores[0..m])
+    let strip = change::seat::strip_of(s, Seat::Taken(list));
+    change::splice::put_new(out, at, strip, term, &docs[0..m], &scores[0..m])
 }
 
 // What is left of all lists of a sound shelf.

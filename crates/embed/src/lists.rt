@@ -20,17 +20,18 @@ pub extern "C" fn tagmurlen_read_list(
     crate::report::tell(answer, value)
 }
 
-// Writes a list to the front of `out`: numbers 11, 10, 9. Stores the offset, or how many bytes were written.
+// Writes a list, its bodies as strips if told so, to the front of `out`: numbers 11, 10, 9. Stores the offset, or how many bytes were written.
 #[no_mangle]
 pub extern "C" fn tagmurlen_write_list(
+    strip: bool,
     term: u32,
     docids: &[u32],
     scores: &[u16],
     out: &mut [u8],
     value: &mut u64,
 ) -> u32
-    ensures { λ r. ⌜ Fills (writeList term (now (docids .entry)) (now (scores .entry)) (length (now (out .entry)))) (now (out .entry)) (now (out .exit)) r (now (value .exit)) ⌝ }
+    ensures { λ r. ⌜ Fills (writeList strip term (now (docids .entry)) (now (scores .entry)) (length (now (out .entry)))) (now (out .entry)) (now (out .exit)) r (now (value .exit)) ⌝ }
 {
-    let answer = list::write::write_list(term, docids, scores, out);
+    let answer = list::write::write_list(strip, term, docids, scores, out);
     crate::report::tell(answer, value)
 }

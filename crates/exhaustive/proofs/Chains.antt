@@ -1,7 +1,7 @@
 -- What right summaries say of a list's blocks. Assumes nothing.
 use Prim.Native.Nat.{ℕ, zero, suc, _+_, _*_, _≤_, _<_}
 use mathlib.Core.Path.{_≡_}
-use mathlib.Core.Bool.{true}
+use mathlib.Core.Bool.{Bool, true}
 use mathlib.Core.List.{List}
 use native.Mathlib.Omega.{arith}
 use lib.ListN.{length, drop, length-drop}
@@ -12,6 +12,7 @@ use Rattle.model.specs.Runs.{All}
 use Rattle.model.proofs.Lists.{and-true, Bytes, bytes-drop}
 use Rattle.wire.specs.Field.{fieldLen}
 use Rattle.wire.proofs.Numbers.{num-below}
+use Rattle.block.specs.Body.{isStrip}
 use Rattle.block.specs.Summary.{sumOf, rightSum}
 use Rattle.block.specs.declared.summary.Summary.{Summary}
 use Rattle.shelf.specs.Walk.{Block, blocksOf}
@@ -35,15 +36,15 @@ sum-facts prev m e =
     record { above = ltb-true _ _ (a .0); order = leb-true _ _ (b .0); some = ltb-true _ _ (d .0); most = leb-true _ _ (f .0) }
 
 -- a docid of three bytes is in range
-sum-low : (m : List ℕ) → Bytes m → 9 ≤ length m → sumOf m .greatest ≤ maxDocid
+sum-low : (strip : Bool) (m : List ℕ) → Bytes m → 9 ≤ length m → sumOf strip m .greatest ≤ maxDocid
 unfolding sumOf
-sum-low m h l = let k : 3 ≤ length (drop 6 m) = omega (arith, length-drop 6 m) in omega (arith, num-below 3 (drop 6 m) (bytes-drop 6 m h) k)
+sum-low strip m h l = let k : 3 ≤ length (drop 6 m) = omega (arith, length-drop 6 m) in omega (arith, num-below 3 (drop 6 m) (bytes-drop 6 m h) k)
 
 blocks-low : (n a : ℕ) (m : List ℕ) (b : ℕ) (s : List ℕ) → Bytes m → 12 * n ≤ length m → All (λ (x : Block). x .sum .greatest ≤ maxDocid) (blocksOf n a m b s)
 unfolding blocksOf
 blocks-low zero a m b s h l = tt
 blocks-low (suc n) a m b s h l =
-    (sum-low m h (omega arith), blocks-low n (a + 12) (drop 12 m) (b + (3 + fieldLen s)) (drop (3 + fieldLen s) s) (bytes-drop 12 m h) (omega (arith, length-drop 12 m)))
+    (sum-low (isStrip s) m h (omega arith), blocks-low n (a + 12) (drop 12 m) (b + (3 + fieldLen s)) (drop (3 + fieldLen s) s) (bytes-drop 12 m h) (omega (arith, length-drop 12 m)))
 
 pub left-low : (s : List ℕ) (r : Reading) → Bytes s → Rests s r → All (λ (x : Block). x .sum .greatest ≤ maxDocid) (blocksLeft s r)
 unfolding blocksLeft

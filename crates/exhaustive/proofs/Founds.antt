@@ -1,7 +1,7 @@
 -- The lists of the terms asked, as the walk found them: they were walked, and they are the query's lists. Assumes nothing.
 use Prim.Native.Nat.{ℕ, zero, suc, _+_, _-_, _*_, _^_, _<_}
 use mathlib.Core.Path.{_≡_, refl, sym, ap, _∙_}
-use mathlib.Core.Bool.{Bool}
+use mathlib.Core.Bool.{Bool, false}
 use mathlib.Core.List.{List, [], _∷_, _++_, map}
 use native.Mathlib.Omega.{arith}
 use lib.ListN.{length, drop, replicate}
@@ -13,9 +13,12 @@ use Rattle.model.specs.Runs.{All, filter}
 use Rattle.model.proofs.Lists.{split}
 use Rattle.wire.specs.Field.{fieldLen}
 use Rattle.block.specs.Summary.{isSum, sumOf, rightSum}
+use Rattle.block.specs.Body.{isStrip}
 use Rattle.shelf.specs.Walk as shelf
 use Rattle.shelf.specs.Walk.{oneSum, sums, bodies, blocksOf, blocksAt, headCount, rightHead, listed, list, onto, lists, walk}
 use Rattle.shelf.specs.Blocks.{blocksLeft, Rests}
+use Rattle.shelf.proofs.Walks.{any-strip, any-greatest}
+use Rattle.shelf.proofs.Readings.{stands-rests, none-rests}
 use Rattle.lookup.specs.Gather.{placeAt, termBlocks}
 use Rattle.lookup.proofs.Stands.{walk-size, term-has, term-blocks, term-ready}
 use Rattle.query.specs.Query.{Asked, termsOf as askedTerms, weightsOf}
@@ -33,8 +36,8 @@ sums-chain zero prev a b e m s q = tt
 sums-chain (suc n) prev a b e m s q =
     let k = 3 + fieldLen s in
     split (isSum m)
-    (λ i. split (rightSum prev (sumOf m))
-    (λ r. (r, sums-chain n (sumOf m .greatest) (a + 12) (b + k) e (drop 12 m) (drop k s) (rw (i, r) at q)))
+    (λ i. split (rightSum prev (sumOf false m))
+    (λ r. (any-strip (isStrip s) prev m ∙ r, rw (any-greatest (isStrip s) m) (sums-chain n (sumOf false m .greatest) (a + 12) (b + k) e (drop 12 m) (drop k s) (rw (i, r) at q))))
     (λ r. let g : refused 7 a ≡ done e = rw (i, r) at q in let z : _≡_ {A = ℕ} 0 1 = cc in absurd (omega arith)))
     (λ i. let g : refused 6 a ≡ done e = rw i at q in let z : _≡_ {A = ℕ} 0 1 = cc in absurd (omega arith))
 
@@ -95,11 +98,10 @@ module _ (s : List ℕ) (ls : List shelf.Listing) (e : walk s ≡ done ls) (t : 
       (λ z. rw z (sym (term-blocks s ls e t)))
 
   term-rests : Rests s (readingAt (placeAt t ls .at) (placeAt t ls .count))
-  unfolding bodies
   term-rests =
       split (eqb (placeAt t ls .count) 0)
-      (λ z. rw z (record { room = omega arith; end = 0; bodied = refl }))
-      (λ z. let h = term-ready s ls e t (omega (arith, eqb-false (placeAt t ls .count) 0 z)) in rw z (record { room = h .room; end = placeAt t ls .next; bodied = h .bodied }))
+      (λ z. rw z (none-rests s 0 0 (omega arith)))
+      (λ z. let h = term-ready s ls e t (omega (arith, eqb-false (placeAt t ls .count) 0 z)) in rw z (stands-rests s (placeAt t ls .at) (placeAt t ls .count) (placeAt t ls .next) h))
 
   term-walked : Walked s (placeAt t ls .at) (placeAt t ls .count)
   term-walked = (term-rests, rw term-left term-chain)
@@ -113,8 +115,7 @@ unfolding blocksLeft blocksOf
 none-left s = refl
 
 none-walked : (s : List ℕ) → Walked s 0 0
-unfolding bodies
-none-walked s = (record { room = omega arith; end = 0; bodied = refl }, rw (none-left s) tt)
+none-walked s = (none-rests s 0 0 (omega arith), rw (none-left s) tt)
 
 abbrev pub zeros : ℕ → List ℕ
 zeros m = replicate m 0

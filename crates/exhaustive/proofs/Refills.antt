@@ -15,6 +15,7 @@ use Rattle.model.proofs.Lists.{Bytes}
 use Rattle.block.specs.Body.{rightBody, bodyRun}
 use Rattle.block.specs.declared.summary.Summary.{Summary}
 use Rattle.block.proofs.Contents.{right-run}
+use Rattle.block.proofs.Runs.{run-few, run-rises}
 use Rattle.shelf.specs.Walk as shelf
 use Rattle.shelf.specs.Blocks.{blocksLeft, Finds}
 use Rattle.shelf.specs.declared.blocks.Reading.{Reading}
@@ -25,12 +26,10 @@ use Rattle.scan.specs.Heads.{between, headPosts}
 use Rattle.scan.specs.Load.{Loadable, Loads}
 use Rattle.scan.specs.declared.head.Head.{Head}
 use Rattle.scan.specs.declared.load.Loaded.the-variants.{Stands, Wrong}
-use Rattle.scan.proofs.Bodies.{run-few}
 use Rattle.scan.proofs.Loadings.{load-stands, load-refused, load-others}
 use Rattle.exhaustive.specs.Lists.{bodyOf}
 use Rattle.exhaustive.specs.Merge.{onShelf, Chain, whole, Line, Refilled}
 use Rattle.exhaustive.specs.declared.fill.Left.{Left}
-use Rattle.exhaustive.proofs.Rises.{run-rises}
 use Rattle.exhaustive.proofs.Chains.{Facts, sum-facts, left-low}
 
 cons-nil : {x : Post} {xs : List Post} → x ∷ xs ≡ [] → ⊥

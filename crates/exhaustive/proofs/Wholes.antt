@@ -11,6 +11,7 @@ use Rattle.model.specs.Post.{Post, docs, Rising}
 use Rattle.model.specs.Runs.{All, has, Asc}
 use Rattle.model.proofs.Lists.{split, All-append, All-image, Bytes}
 use Rattle.block.specs.Body.{rightBody, bodyRun}
+use Rattle.block.proofs.Runs.{run-few, run-rises}
 use Rattle.shelf.specs.Walk as shelf
 use Rattle.shelf.specs.Blocks.{blocksLeft}
 use Rattle.rank.specs.Match.{Term, stored, scoreOf, holds}
@@ -18,11 +19,9 @@ use Rattle.rank.specs.Run.{dropBelow, skipTerm, size}
 use Rattle.rank.proofs.Matches.{AllDocs}
 use Rattle.rank.proofs.Hits.{Rises}
 use Rattle.prune.specs.Prune.{postsOf}
-use Rattle.scan.proofs.Bodies.{run-few}
 use Rattle.exhaustive.specs.Lists.{blockOf}
 use Rattle.exhaustive.specs.Merge.{onShelf, Chain, Behinds, wholes}
 use Rattle.exhaustive.specs.declared.fill.Left.{Left}
-use Rattle.exhaustive.proofs.Rises.{run-rises}
 use Rattle.exhaustive.proofs.Chains.{sum-facts, left-low}
 
 -- ---- postings that come after others

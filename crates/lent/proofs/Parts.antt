@@ -8,6 +8,7 @@ use Rattle.model.specs.Outcome.{Outcome, refused, done}
 use Rattle.model.proofs.Lists.{split}
 use Rattle.wire.specs.Field.{whole}
 use Rattle.wire.proofs.Fields.{whole-size}
+use Rattle.block.specs.Body.{isStrip, tagOf}
 use Rattle.shelf.specs.Walk.{Block, Listing, bodies}
 use Rattle.lookup.specs.Find.{found, shownOf}
 use Rattle.lookup.specs.Show.{bodiesFrom, hasBlock, partAt, partPast, bodyShown, blockOf}
@@ -19,8 +20,9 @@ use Rattle.lent.specs.View.{Inside, bytesOf}
 part-inside : (s : List ℕ) (b : ℕ) → Inside s (partAt s b)
 unfolding partAt
 part-inside s b =
-    split (whole 3 (drop b s))
-    (λ e. rw e (omega arith, omega (arith, whole-size 3 (drop b s) e, length-drop b s)))
+    let tag = tagOf (isStrip (drop b s)) in
+    split (whole tag (drop b s))
+    (λ e. rw e (omega arith, omega (arith, whole-size tag (drop b s) e, length-drop b s)))
     (λ e. rw e tt)
 
 past-inside : (s : List ℕ) (o : Outcome ℕ) → Inside s (partPast s o)

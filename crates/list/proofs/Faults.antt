@@ -2,7 +2,7 @@
 use Prim.Native.Nat.{ℕ, suc, _+_, _≤_, _<_, min, max}
 use native.Mathlib.Omega.{arith}
 use mathlib.Core.Path.{_≡_, refl, ap, _∙_}
-use mathlib.Core.Bool.{false}
+use mathlib.Core.Bool.{Bool, false}
 use mathlib.Core.List.{List, [], _∷_, _++_}
 use borrow.Author.Tests.{lt-ltb, le-ltb, ltb-true, le-leb, lt-leb, leb-true, eq-eqb, ne-eqb}
 use lib.Dec.{leb, ltb}
@@ -82,23 +82,23 @@ may-write ds ss e some few h =
 
 -- ---- the answer, case by case
 
-module _ (t : ℕ) (ds ss : List ℕ) (room : ℕ) where
-  pub write-many : maxPostings < max (length ds) (length ss) → writeList t ds ss room ≡ refused 11 0
+module _ (strip : Bool) (t : ℕ) (ds ss : List ℕ) (room : ℕ) where
+  pub write-many : maxPostings < max (length ds) (length ss) → writeList strip t ds ss room ≡ refused 11 0
   unfolding writeList
   write-many h = rw (lt-ltb 6400 (max (length ds) (length ss)) h)
 
   pub write-uneven : (k : ℕ) → max (length ds) (length ss) ≤ maxPostings → (length ds ≡ length ss → ⊥) → k ≡ min (length ds) (length ss) →
-      writeList t ds ss room ≡ refused 10 k
+      writeList strip t ds ss room ≡ refused 10 k
   unfolding writeList
   write-uneven k h d e = rw (le-ltb 6400 (max (length ds) (length ss)) h, ne-eqb (length ds) (length ss) d, e)
 
   module _ (h : max (length ds) (length ss) ≤ maxPostings) (e : length ds ≡ length ss) where
-    pub write-none : length ds ≡ 0 → writeList t ds ss room ≡ refused 10 0
+    pub write-none : length ds ≡ 0 → writeList strip t ds ss room ≡ refused 10 0
     unfolding writeList
     write-none z = rw (le-ltb 6400 (max (length ds) (length ss)) h, eq-eqb (length ds) (length ss) e, eq-eqb (length ds) 0 z)
 
     module _ (z : length ds ≡ 0 → ⊥) where
-      pub write-fault : (k : ℕ) → k ≡ faultAt 0 (postings ds ss) → k < length ds → writeList t ds ss room ≡ refused 10 k
+      pub write-fault : (k : ℕ) → k ≡ faultAt 0 (postings ds ss) → k < length ds → writeList strip t ds ss room ≡ refused 10 k
       unfolding writeList
       write-fault k q l =
           rw (
@@ -109,7 +109,7 @@ module _ (t : ℕ) (ds ss : List ℕ) (room : ℕ) where
             q,
           )
 
-      pub write-short : length ds ≤ faultAt 0 (postings ds ss) → room < length (listBytes t (postings ds ss)) → writeList t ds ss room ≡ refused 9 0
+      pub write-short : length ds ≤ faultAt 0 (postings ds ss) → room < length (listBytes strip t (postings ds ss)) → writeList strip t ds ss room ≡ refused 9 0
       unfolding writeList
       write-short f l =
           rw (
@@ -117,10 +117,10 @@ module _ (t : ℕ) (ds ss : List ℕ) (room : ℕ) where
             eq-eqb (length ds) (length ss) e,
             ne-eqb (length ds) 0 z,
             le-ltb (faultAt 0 (postings ds ss)) (length ds) f,
-            lt-ltb room (length (listBytes t (postings ds ss))) l,
+            lt-ltb room (length (listBytes strip t (postings ds ss))) l,
           )
 
-      pub write-done : length ds ≤ faultAt 0 (postings ds ss) → length (listBytes t (postings ds ss)) ≤ room → writeList t ds ss room ≡ done (listBytes t (postings ds ss))
+      pub write-done : length ds ≤ faultAt 0 (postings ds ss) → length (listBytes strip t (postings ds ss)) ≤ room → writeList strip t ds ss room ≡ done (listBytes strip t (postings ds ss))
       unfolding writeList
       write-done f l =
           rw (
@@ -128,7 +128,7 @@ module _ (t : ℕ) (ds ss : List ℕ) (room : ℕ) where
             eq-eqb (length ds) (length ss) e,
             ne-eqb (length ds) 0 z,
             le-ltb (faultAt 0 (postings ds ss)) (length ds) f,
-            le-ltb room (length (listBytes t (postings ds ss))) l,
+            le-ltb room (length (listBytes strip t (postings ds ss))) l,
           )
 
 -- ---- what is answered, and what the buffer holds

@@ -2,6 +2,7 @@
 use Prim.Native.Nat.{ℕ, zero, suc, _+_, _*_, _-_, _/_, _^_, _≤_, _<_, min}
 use native.Mathlib.Omega.{arith}
 use mathlib.Core.Path.{_≡_, refl, sym, ap, ap₂, _∙_}
+use mathlib.Core.Bool.{Bool}
 use mathlib.Core.List.{List, [], _∷_, _++_}
 use borrow.Author.Tests.{leb-true, leb-false}
 use lib.Dec.{leb}
@@ -12,13 +13,13 @@ use Rattle.model.specs.Post.{Post, post, postings, Rising, lastDoc, Even}
 use Rattle.model.specs.Runs.{Stored}
 use Rattle.model.proofs.Lists.{split}
 use Rattle.model.proofs.Posts.{from, from-end, count-of, rising-last, last-append, rising-append}
-use Rattle.model.proofs.Storing.{Rest, rest-room}
+use Rattle.model.proofs.Storing.{Rest, rest-room, rest-turn}
 use Rattle.wire.specs.Number.{be}
 use Rattle.wire.specs.Field.{fieldBytes}
 use Rattle.wire.proofs.Numbers.{be-length}
 use Rattle.wire.proofs.Fields.{field-size}
 use Rattle.block.specs.Summary.{sumBytes, summaryOf}
-use Rattle.block.specs.Body.{bodyBytes}
+use Rattle.block.specs.Body.{tagOf, bodyBytes}
 use Rattle.block.proofs.Summaries.{sum-size}
 use Rattle.block.specs.declared.summary.Summary.{Summary}
 use Rattle.list.specs.Write.{packed, sumsBytes, bodiesBytes, blocksBytes, listBytes, Paired}
@@ -151,83 +152,90 @@ turn ds ss a e p h m =
       last = rw t (omega (arith, f .1, p .may .last));
     }
 
--- its summary's numbers fit their bytes
-pub fits-turn : {ds ss : List ℕ} {a e : ℕ} {m : Summary} → Turn ds ss a e → m ≡ summaryOf (blockAt a e ds ss) → (m .least < 256 ^ 3) × (m .greatest < 256 ^ 3)
-fits-turn {ds} {ss} {a} {e} {m} t q = go (blockAt a e ds ss) q (t .even .rise) (t .last)
-  where
-    go : (ps : List Post) → m ≡ summaryOf ps → Rising 0 ps → lastDoc 0 ps ≤ 16777215 → (m .least < 256 ^ 3) × (m .greatest < 256 ^ 3)
-    go [] q r l = (omega (arith, ap (λ (x : Summary). x .least) q), omega (arith, ap (λ (x : Summary). x .greatest) q))
-    go (p ∷ ps) q r l = (omega (arith, ap (λ (x : Summary). x .least) q, rising-last (p .doc) ps (r .1)), omega (arith, ap (λ (x : Summary). x .greatest) q))
+module _ (strip : Bool) where
+  -- its summary's numbers fit their bytes
+  pub fits-turn : {ds ss : List ℕ} {a e : ℕ} {m : Summary} → Turn ds ss a e → m ≡ summaryOf strip (blockAt a e ds ss) → (m .least < 256 ^ 3) × (m .greatest < 256 ^ 3)
+  fits-turn {ds} {ss} {a} {e} {m} t q = go (blockAt a e ds ss) q (t .even .rise) (t .last)
+    where
+      go : (ps : List Post) → m ≡ summaryOf strip ps → Rising 0 ps → lastDoc 0 ps ≤ 16777215 → (m .least < 256 ^ 3) × (m .greatest < 256 ^ 3)
+      go [] q r l = (omega (arith, ap (λ (x : Summary). x .least) q), omega (arith, ap (λ (x : Summary). x .greatest) q))
+      go (p ∷ ps) q r l = (omega (arith, ap (λ (x : Summary). x .least) q, rising-last (p .doc) ps (r .1)), omega (arith, ap (λ (x : Summary). x .greatest) q))
 
--- ---- the bytes of the first block's part, and of the parts after it
+  -- ---- the bytes of the first block's part, and of the parts after it
 
-pub sums-turn : {ds ss : List ℕ} {a e : ℕ} → Turn ds ss a e →
-    sumsBytes (packed perList (from a ds ss)) ≡ sumBytes (summaryOf (blockAt a e ds ss)) ++ sumsBytes (packed perList (from e ds ss))
-unfolding sumsBytes
-sums-turn t = ap sumsBytes (t .next)
+  pub sums-turn : {ds ss : List ℕ} {a e : ℕ} → Turn ds ss a e →
+      sumsBytes strip (packed perList (from a ds ss)) ≡ sumBytes (summaryOf strip (blockAt a e ds ss)) ++ sumsBytes strip (packed perList (from e ds ss))
+  unfolding sumsBytes
+  sums-turn t = ap (sumsBytes strip) (t .next)
 
-pub bodies-turn : {ds ss : List ℕ} {a e : ℕ} → Turn ds ss a e →
-    bodiesBytes (packed perList (from a ds ss)) ≡ fieldBytes 3 (bodyBytes (blockAt a e ds ss)) ++ bodiesBytes (packed perList (from e ds ss))
-unfolding bodiesBytes
-bodies-turn t = ap bodiesBytes (t .next)
+  pub bodies-turn : {ds ss : List ℕ} {a e : ℕ} → Turn ds ss a e →
+      bodiesBytes strip (packed perList (from a ds ss)) ≡ fieldBytes (tagOf strip) (bodyBytes strip (blockAt a e ds ss)) ++ bodiesBytes strip (packed perList (from e ds ss))
+  unfolding bodiesBytes
+  bodies-turn t = ap (bodiesBytes strip) (t .next)
 
--- there is room for the first
-pub sums-room : {ds ss l m v : List ℕ} {a e at j : ℕ} → Turn ds ss a e → Rest l m at j v (sumsBytes (packed perList (from a ds ss))) → at + length v ≤ length l → j + 12 ≤ length m
-sums-room {ds} {ss} {l} {m} {v} {a} {e} t r h =
-    let b = summaryOf (blockAt a e ds ss) in
-    omega (arith, rest-room (sumBytes b) (sumsBytes (packed 64 (from e ds ss))) (sums-turn t) r h, sum-size b)
+  -- there is room for the first
+  pub sums-room : {ds ss l m v : List ℕ} {a e at j : ℕ} → Turn ds ss a e → Rest l m at j v (sumsBytes strip (packed perList (from a ds ss))) → at + length v ≤ length l → j + 12 ≤ length m
+  sums-room {ds} {ss} {l} {m} {v} {a} {e} t r h =
+      let b = summaryOf strip (blockAt a e ds ss) in
+      omega (arith, rest-room (sumBytes b) (sumsBytes strip (packed 64 (from e ds ss))) (sums-turn t) r h, sum-size b)
 
-pub bodies-room : {ds ss l m v : List ℕ} {a e at j : ℕ} → Turn ds ss a e → Rest l m at j v (bodiesBytes (packed perList (from a ds ss))) → at + length v ≤ length l →
-    j + length (fieldBytes 3 (bodyBytes (blockAt a e ds ss))) ≤ length m
-bodies-room {ds} {ss} {l} {m} {v} {a} {e} t r h =
-    rest-room (fieldBytes 3 (bodyBytes (blockAt a e ds ss))) (bodiesBytes (packed 64 (from e ds ss))) (bodies-turn t) r h
+  pub bodies-room : {ds ss l m v : List ℕ} {a e at j : ℕ} → Turn ds ss a e → Rest l m at j v (bodiesBytes strip (packed perList (from a ds ss))) → at + length v ≤ length l →
+      j + length (fieldBytes (tagOf strip) (bodyBytes strip (blockAt a e ds ss))) ≤ length m
+  bodies-room {ds} {ss} {l} {m} {v} {a} {e} t r h =
+      rest-room (fieldBytes (tagOf strip) (bodyBytes strip (blockAt a e ds ss))) (bodiesBytes strip (packed 64 (from e ds ss))) (bodies-turn t) r h
 
-pub sums-end : (a : ℕ) (ds ss : List ℕ) → length ds ≤ a → sumsBytes (packed perList (from a ds ss)) ≡ []
-unfolding sumsBytes
-sums-end a ds ss h = ap sumsBytes (packed-none a ds ss h)
+  -- and once it is stored the rest is to come
+  pub bodies-on : {ds ss l m o v : List ℕ} {a e at j r : ℕ} → Turn ds ss a e → Rest l m at j v (bodiesBytes strip (packed perList (from a ds ss))) →
+      Stored m o j r (fieldBytes (tagOf strip) (bodyBytes strip (blockAt a e ds ss))) → Rest l o at r v (bodiesBytes strip (packed perList (from e ds ss)))
+  bodies-on {ds} {ss} {l} {m} {o} {v} {a} {e} t w s =
+      rest-turn (fieldBytes (tagOf strip) (bodyBytes strip (blockAt a e ds ss))) (bodiesBytes strip (packed 64 (from e ds ss))) (bodies-turn t) w s
 
-pub bodies-end : (a : ℕ) (ds ss : List ℕ) → length ds ≤ a → bodiesBytes (packed perList (from a ds ss)) ≡ []
-unfolding bodiesBytes
-bodies-end a ds ss h = ap bodiesBytes (packed-none a ds ss h)
+  pub sums-end : (a : ℕ) (ds ss : List ℕ) → length ds ≤ a → sumsBytes strip (packed perList (from a ds ss)) ≡ []
+  unfolding sumsBytes
+  sums-end a ds ss h = ap (sumsBytes strip) (packed-none a ds ss h)
 
--- ---- how many bytes
+  pub bodies-end : (a : ℕ) (ds ss : List ℕ) → length ds ≤ a → bodiesBytes strip (packed perList (from a ds ss)) ≡ []
+  unfolding bodiesBytes
+  bodies-end a ds ss h = ap (bodiesBytes strip) (packed-none a ds ss h)
 
--- of the blocks from posting a on: a summary is 12 bytes
-abbrev pub sizeFrom : (a : ℕ) (ds ss : List ℕ) → ℕ
-sizeFrom a ds ss = 12 * length (packed perList (from a ds ss)) + length (bodiesBytes (packed perList (from a ds ss)))
+  -- ---- how many bytes
 
-pub size-turn : {ds ss : List ℕ} {a e : ℕ} → Turn ds ss a e → sizeFrom a ds ss ≡ 15 + length (bodyBytes (blockAt a e ds ss)) + sizeFrom e ds ss
-size-turn {ds} {ss} {a} {e} t =
-    let b = fieldBytes 3 (bodyBytes (blockAt a e ds ss)) in
-    omega (arith, ap length (t .next), ap length (bodies-turn t), length-append b (bodiesBytes (packed 64 (from e ds ss))), field-size 3 (bodyBytes (blockAt a e ds ss)))
+  -- of the blocks from posting a on: a summary is 12 bytes
+  abbrev pub sizeFrom : (a : ℕ) (ds ss : List ℕ) → ℕ
+  sizeFrom a ds ss = 12 * length (packed perList (from a ds ss)) + length (bodiesBytes strip (packed perList (from a ds ss)))
 
-pub size-end : (a : ℕ) (ds ss : List ℕ) → length ds ≤ a → sizeFrom a ds ss ≡ 0
-size-end a ds ss h = omega (arith, ap length (packed-none a ds ss h), ap length (bodies-end a ds ss h))
+  pub size-turn : {ds ss : List ℕ} {a e : ℕ} → Turn ds ss a e → sizeFrom a ds ss ≡ 15 + length (bodyBytes strip (blockAt a e ds ss)) + sizeFrom e ds ss
+  size-turn {ds} {ss} {a} {e} t =
+      let b = fieldBytes (tagOf strip) (bodyBytes strip (blockAt a e ds ss)) in
+      omega (arith, ap length (t .next), ap length (bodies-turn t), length-append b (bodiesBytes strip (packed 64 (from e ds ss))), field-size (tagOf strip) (bodyBytes strip (blockAt a e ds ss)))
 
-pub list-size : (t : ℕ) (ds ss : List ℕ) → length (listBytes t (postings ds ss)) ≡ 8 + sizeFrom 0 ds ss
-list-size t ds ss = ap length (list-bytes t (postings ds ss)) ∙ (omega (arith, blocks-size t (packed 64 (postings ds ss))))
+  pub size-end : (a : ℕ) (ds ss : List ℕ) → length ds ≤ a → sizeFrom a ds ss ≡ 0
+  size-end a ds ss h = omega (arith, ap length (packed-none a ds ss h), ap length (bodies-end a ds ss h))
 
--- by its parts
-pub list-room : (t : ℕ) (ps : List Post) → length (listBytes t ps) ≡ 8 + length (sumsBytes (packed perList ps)) + length (bodiesBytes (packed perList ps))
-list-room t ps = ap length (list-bytes t ps) ∙ omega (arith, blocks-size t (packed 64 ps), sums-size (packed 64 ps))
+  pub list-size : (t : ℕ) (ds ss : List ℕ) → length (listBytes strip t (postings ds ss)) ≡ 8 + sizeFrom 0 ds ss
+  list-size t ds ss = ap length (list-bytes strip t (postings ds ss)) ∙ (omega (arith, blocks-size strip t (packed 64 (postings ds ss))))
 
-size-few : (n : ℕ) (ps : List Post) → 12 * length (packed n ps) + length (bodiesBytes (packed n ps)) ≤ 715 * n
-unfolding packed bodiesBytes
-size-few zero ps = omega arith
-size-few (suc n) [] = omega arith
-size-few (suc n) (p ∷ ps) =
-    let b = bodyBytes (p ∷ take 99 ps) in
-    omega (
-      arith,
-      length-append (fieldBytes 3 b) (bodiesBytes (packed n (drop 99 ps))),
-      field-size 3 b,
-      body-few (p ∷ take 99 ps),
-      length-take 99 ps,
-      size-few n (drop 99 ps),
-    )
+  -- by its parts
+  pub list-room : (t : ℕ) (ps : List Post) → length (listBytes strip t ps) ≡ 8 + length (sumsBytes strip (packed perList ps)) + length (bodiesBytes strip (packed perList ps))
+  list-room t ps = ap length (list-bytes strip t ps) ∙ omega (arith, blocks-size strip t (packed 64 ps), sums-size strip (packed 64 ps))
 
-pub size-small : (ds ss : List ℕ) → sizeFrom 0 ds ss ≤ 45760
-size-small ds ss = size-few 64 (postings ds ss)
+  size-few : (n : ℕ) (ps : List Post) → 12 * length (packed n ps) + length (bodiesBytes strip (packed n ps)) ≤ 715 * n
+  unfolding packed bodiesBytes
+  size-few zero ps = omega arith
+  size-few (suc n) [] = omega arith
+  size-few (suc n) (p ∷ ps) =
+      let b = bodyBytes strip (p ∷ take 99 ps) in
+      omega (
+        arith,
+        length-append (fieldBytes (tagOf strip) b) (bodiesBytes strip (packed n (drop 99 ps))),
+        field-size (tagOf strip) b,
+        body-few strip (p ∷ take 99 ps),
+        length-take 99 ps,
+        size-few n (drop 99 ps),
+      )
+
+  pub size-small : (ds ss : List ℕ) → sizeFrom 0 ds ss ≤ 45760
+  size-small ds ss = size-few 64 (postings ds ss)
 
 -- ---- a field of a body and a list, as the code stores them
 
@@ -242,7 +250,7 @@ pub header-past : {l m : List ℕ} {at r : ℕ} (t n : ℕ) → Stored l m at r 
 header-past t n s =
     omega (arith, s .past, field-size 1 (be 4 t ++ be 1 n), length-append (be 4 t) (be 1 n), be-length 4 t, be-length 1 n)
 
-pub list-parts : (t n : ℕ) (ps : List Post) → n ≡ length (packed perList ps) →
-    fieldBytes 1 (be 4 t ++ be 1 n) ++ (sumsBytes (packed perList ps) ++ bodiesBytes (packed perList ps)) ≡ listBytes t ps
+pub list-parts : (strip : Bool) (t n : ℕ) (ps : List Post) → n ≡ length (packed perList ps) →
+    fieldBytes 1 (be 4 t ++ be 1 n) ++ (sumsBytes strip (packed perList ps) ++ bodiesBytes strip (packed perList ps)) ≡ listBytes strip t ps
 unfolding listBytes blocksBytes
-list-parts t n ps e = rw e
+list-parts strip t n ps e = rw e

@@ -2,7 +2,7 @@
 use Prim.Native.Nat.{ℕ, _^_, _≤_, _<_, min}
 use native.Mathlib.Omega.{arith}
 use mathlib.Core.Path.{_≡_, refl, sym, ap, _∙_}
-use mathlib.Core.Bool.{true, cond}
+use mathlib.Core.Bool.{Bool, true, cond}
 use mathlib.Core.List.{List, [], _∷_, append-nil}
 use borrow.Author.Tests.{eq-eqb, le-leb}
 use lib.Dec.{leb, eqb}
@@ -48,16 +48,16 @@ writing-read ws t d w ok few small = go (checked (writing ws)) refl (writing-hol
     go (done ls) e q = let same : wordsOf ls ≡ ws = cc in sound-read (writing ws) ls t d w e ∙ rw same
 
 -- what the writer accepted reads back as the same postings, in runs that have room for them
-pub written-reads-back : (t : ℕ) (ds ss : List ℕ) (room : ℕ) (v : List ℕ) (d w : ℕ) → t < 2 ^ 32 → writeList t ds ss room ≡ done v → length ds ≤ d → length ds ≤ w →
+pub written-reads-back : (strip : Bool) (t : ℕ) (ds ss : List ℕ) (room : ℕ) (v : List ℕ) (d w : ℕ) → t < 2 ^ 32 → writeList strip t ds ss room ≡ done v → length ds ≤ d → length ds ≤ w →
     readList t v d w ≡ done (postings ds ss)
 unfolding writing
-written-reads-back t ds ss room v d w small e h k =
-    let a = written-accepted t ds ss room v e in
+written-reads-back strip t ds ss room v d w small e h k =
+    let a = written-accepted strip t ds ss room v e in
     let ps = postings ds ss in
-    let word : Word = record { term = t; posts = ps } in
-    let one : writing (word ∷ []) ≡ v = append-nil (listBytes t ps) ∙ sym (a .bytes) in
+    let word : Word = record { term = t; posts = ps; strip = strip } in
+    let one : writing (word ∷ []) ≡ v = append-nil (listBytes strip t ps) ∙ sym (a .bytes) in
     let n : length ps ≡ length ds = count-of ds ss (a .paired .same) in
-    let fits : length v ≤ maxShelf = omega (arith, ap length (a .bytes), list-size t ds ss, size-small ds ss) in
+    let fits : length v ≤ maxShelf = omega (arith, ap length (a .bytes), list-size strip t ds ss, size-small strip ds ss) in
     let ok : Words 0 (word ∷ []) = (omega arith, small, a .paired .may, tt) in
     let room-in : leb (length ps) (min d w) ≡ true = le-leb (length ps) (min d w) (omega arith) in
     rw one at (writing-read (word ∷ []) t d w ok (omega arith) (rw one fits)) ∙ rw (eq-eqb t t refl, room-in)

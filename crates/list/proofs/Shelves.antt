@@ -14,7 +14,7 @@ use Rattle.shelf.specs.declared.check.BadRead.the-variants.{NoBad}
 use Rattle.shelf.proofs.Sounds.{or-none, sound-walk}
 use Rattle.lookup.proofs.Stands.{walk-lists}
 use Rattle.list.specs.Write.{listBytes, Word, writing, Words, wordsOf, Full}
-use Rattle.list.proofs.Writes.{writtenFrom, written-posts, written-sound}
+use Rattle.list.proofs.Writes.{writtenFrom, written-posts, written-strip, written-sound}
 use Rattle.list.proofs.Canonical.{list-only}
 use Rattle.list.proofs.WritesBack.{read-writable, packed-writes-back}
 
@@ -23,9 +23,10 @@ use Rattle.list.proofs.WritesBack.{read-writable, packed-writes-back}
 words-written : (floor at : ℕ) (ws : List Word) → Words floor ws → wordsOf (writtenFrom at ws) ≡ ws
 words-written floor at [] ok = refl
 words-written floor at (w ∷ ws) ok =
-    let p = written-posts (w .term) at (w .posts) (ok .2) in
-    let r = words-written (w .term + 1) (at + length (listBytes (w .term) (w .posts))) ws (ok .3) in
-    λ i. record { term = w .term; posts = p i } ∷ r i
+    let p = written-posts (w .strip) (w .term) at (w .posts) (ok .2) in
+    let q = written-strip (w .strip) (w .term) at (w .posts) (ok .2) in
+    let r = words-written (w .term + 1) (at + length (listBytes (w .strip) (w .term) (w .posts))) ws (ok .3) in
+    λ i. record { term = w .term; posts = p i; strip = q i } ∷ r i
 
 -- "One writing of a shelf is the writer's lists in rising term number": it is sound, and its lists hold just the postings that were written
 pub writing-holds : (ws : List Word) → Words 0 ws → length ws ≤ maxLists → length (writing ws) ≤ maxShelf →

@@ -11,7 +11,7 @@ use Rattle.model.specs.Post.{Post, postings, docs, scores, Rising, Scored, last
 use Rattle.model.specs.Runs.{All}
 use Rattle.model.proofs.Lists.{All-append, Bytes, map-length}
 use Rattle.model.proofs.Posts.{last-append, rising-join}
-use Rattle.shelf.specs.Walk.{Block, Listing, postsOf, list}
+use Rattle.shelf.specs.Walk.{Block, Listing, postsOf, stripOf, list}
 use Rattle.shelf.specs.Check.{badBody}
 use Rattle.shelf.specs.declared.check.BadRead.the-variants.{NoBad}
 use Rattle.list.specs.Write.{packed, listBytes, Writable, Paired, Full, writeList}
@@ -118,19 +118,20 @@ module _ (floor at : ℕ) (s : List ℕ) (l : Listing) (h : Bytes s) (e : list f
       })
 
   -- "a sound list with every block but the last full, read and written, is the same bytes"
-  pub packed-writes-back : Full (l .blocks) → listBytes (l .place .term) (postsOf (l .blocks)) ++ drop (l .place .next - at) s ≡ s
+  pub packed-writes-back : Full (l .blocks) → listBytes (stripOf (l .blocks)) (l .place .term) (postsOf (l .blocks)) ++ drop (l .place .next - at) s ≡ s
   packed-writes-back u =
       let r = list-only floor at s l h e f in
-      rw (list-bytes (l .place .term) (postsOf (l .blocks)), posts-joined (l .blocks), packed-chunks 64 0 (l .blocks) (r .few) (r .fine) (r .sized) u) (r .bytes)
+      rw (list-bytes (stripOf (l .blocks)) (l .place .term) (postsOf (l .blocks)), posts-joined (l .blocks), packed-chunks 64 0 (l .blocks) (r .few) (r .fine) (r .sized) u) (r .bytes)
 
   -- the same through the writer: the runs that were read give the bytes that were read
   pub written-back : Full (l .blocks) → (room : ℕ) → l .place .next - at ≤ room →
-      writeList (l .place .term) (docs (postsOf (l .blocks))) (scores (postsOf (l .blocks))) room ≡ done (take (l .place .next - at) s)
+      writeList (stripOf (l .blocks)) (l .place .term) (docs (postsOf (l .blocks))) (scores (postsOf (l .blocks))) room ≡ done (take (l .place .next - at) s)
   written-back u room fits =
+      let strip = stripOf (l .blocks) in
       let t = l .place .term in
       let ps = postsOf (l .blocks) in
       let r = list-only floor at s l h e f in
-      let b = front-of (listBytes t ps) s (l .place .next - at) (omega (arith, r .within)) (packed-writes-back u) in
-      let q : listBytes t (postings (docs ps) (scores ps)) ≡ take (l .place .next - at) s = ap (listBytes t) (runs-postings ps) ∙ b .0 in
-      let n : length (listBytes t (postings (docs ps) (scores ps))) ≤ room = omega (arith, ap length (ap (listBytes t) (runs-postings ps)), b .1) in
-      accepted-written t (docs ps) (scores ps) room (runs-paired ps read-writable) n ∙ ap done q
+      let b = front-of (listBytes strip t ps) s (l .place .next - at) (omega (arith, r .within)) (packed-writes-back u) in
+      let q : listBytes strip t (postings (docs ps) (scores ps)) ≡ take (l .place .next - at) s = ap (listBytes strip t) (runs-postings ps) ∙ b .0 in
+      let n : length (listBytes strip t (postings (docs ps) (scores ps))) ≤ room = omega (arith, ap length (ap (listBytes strip t) (runs-postings ps)), b .1) in
+      accepted-written strip t (docs ps) (scores ps) room (runs-paired ps read-writable) n ∙ ap done q

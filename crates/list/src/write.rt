@@ -1,5 +1,6 @@
 // Writing one posting list: its length first, then its bytes, so that a refusal leaves the buffer as it was.
 ghost use mathlib.Core.Path.{_≡_};
+ghost use mathlib.Core.Bool.{Bool};
 ghost use mathlib.Core.List.{_++_};
 ghost use Prim.Native.Nat.{ℕ, _+_, _≤_, _<_, min};
 ghost use lib.ListN.{length};
@@ -8,7 +9,7 @@ ghost use Rattle.model.specs.Post.{postings, Even};
 ghost use Rattle.model.specs.Runs.{Stored};
 ghost use Rattle.wire.specs.Number.{be};
 ghost use Rattle.wire.specs.Field.{fieldBytes};
-ghost use Rattle.block.specs.Body.{bodyBytes};
+ghost use Rattle.block.specs.Body.{tagOf, bodyBytes};
 ghost use Rattle.list.specs.Answer.{Gives};
 ghost use Rattle.list.specs.Write.{packed, sumsBytes, bodiesBytes, listBytes, faultAt, writeList, Paired};
 use crate::answer::Answer;
@@ -25,13 +26,13 @@ fn block_end(n: usize, a: usize) -> usize
 }
 
 // A block's body, as a field.
-fn put_body_field(out: &mut [u8], at: usize, docs: &[u32], scores: &[u16]) -> usize
-    requires { ⌜ (0 < length (now docs)) × (length (now docs) ≤ perBlock) × Even 0 (now docs) (now scores) × (at + length (fieldBytes 3 (bodyBytes (postings (now docs) (now scores)))) ≤ length (now out)) ⌝ }
-    ensures { λ r. ⌜ Stored (now (out .entry)) (now (out .exit)) at r (fieldBytes 3 (bodyBytes (postings (now (docs .entry)) (now (scores .entry))))) ⌝ }
+pub fn put_body_field(out: &mut [u8], at: usize, strip: bool, docs: &[u32], scores: &[u16]) -> usize
+    requires { ⌜ (0 < length (now docs)) × (length (now docs) ≤ perBlock) × Even 0 (now docs) (now scores) × (at + length (fieldBytes (tagOf strip) (bodyBytes strip (postings (now docs) (now scores)))) ≤ length (now out)) ⌝ }
+    ensures { λ r. ⌜ Stored (now (out .entry)) (now (out .exit)) at r (fieldBytes (tagOf strip) (bodyBytes strip (postings (now (docs .entry)) (now (scores .entry))))) ⌝ }
 {
     let n = block::body::body_len(docs, scores);
-    let a = wire::field::put_head(out, at, 3, n as u16);
-    block::body::put_body(out, a, docs, scores)
+    let a = wire::field::put_head(out, at, block::body::tag_of(strip), n as u16);
+    block::body::put_body(out, a, strip, docs, scores)
 }
 
 // A list's header.
@@ -46,30 +47,30 @@ fn put_header(out: &mut [u8], at: usize, term: u32, count: u8) -> usize
 
 // ---- a list's parts, each from two runs that may be written, at a place that has room
 
-fn put_summaries(out: &mut [u8], at: usize, docs: &[u32], scores: &[u16]) -> usize
-    requires { ⌜ Paired (now docs) (now scores) × (at + length (sumsBytes (packed perList (postings (now docs) (now scores)))) ≤ length (now out)) ⌝ }
-    ensures { λ r. ⌜ Stored (now (out .entry)) (now (out .exit)) at r (sumsBytes (packed perList (postings (now (docs .entry)) (now (scores .entry))))) ⌝ }
+fn put_summaries(out: &mut [u8], at: usize, strip: bool, docs: &[u32], scores: &[u16]) -> usize
+    requires { ⌜ Paired (now docs) (now scores) × (at + length (sumsBytes strip (packed perList (postings (now docs) (now scores)))) ≤ length (now out)) ⌝ }
+    ensures { λ r. ⌜ Stored (now (out .entry)) (now (out .exit)) at r (sumsBytes strip (packed perList (postings (now (docs .entry)) (now (scores .entry))))) ⌝ }
 {
     let mut j = at;
     let mut a = 0;
     while a < docs.len() {
         let e = block_end(docs.len(), a);
-        let m = block::summary::summary_of(&docs[a..e], &scores[a..e]);
+        let m = block::summary::summary_of(&docs[a..e], &scores[a..e], strip);
         j = block::summary::put_summary(out, j, m);
         a = e;
     }
     j
 }
 
-fn put_bodies(out: &mut [u8], at: usize, docs: &[u32], scores: &[u16]) -> usize
-    requires { ⌜ Paired (now docs) (now scores) × (at + length (bodiesBytes (packed perList (postings (now docs) (now scores)))) ≤ length (now out)) ⌝ }
-    ensures { λ r. ⌜ Stored (now (out .entry)) (now (out .exit)) at r (bodiesBytes (packed perList (postings (now (docs .entry)) (now (scores .entry))))) ⌝ }
+fn put_bodies(out: &mut [u8], at: usize, strip: bool, docs: &[u32], scores: &[u16]) -> usize
+    requires { ⌜ Paired (now docs) (now scores) × (at + length (bodiesBytes strip (packed perList (postings (now docs) (now scores)))) ≤ length (now out)) ⌝ }
+    ensures { λ r. ⌜ Stored (now (out .entry)) (now (out .exit)) at r (bodiesBytes strip (packed perList (postings (now (docs .entry)) (now (scores .entry))))) ⌝ }
 {
     let mut j = at;
     let mut a = 0;
     while a < docs.len() {
         let e = block_end(docs.len(), a);
-        j = put_body_field(out, j, &docs[a..e], &scores[a..e]);
+        j = put_body_field(out, j, strip, &docs[a..e], &scores[a..e]);
         a = e;
     }
     j
@@ -77,10 +78,10 @@ fn put_bodies(out: &mut [u8], at: usize, docs: &[u32], scores: &[u16]) -> usize
 
 // ---- a list
 
-// How many bytes the list takes, whatever its term: a block's are a summary of 12, and a body field of 3 and its body.
+// How many bytes the list takes, whatever its term and its layout: a block's are a summary of 12, and a body field of 3 and its body.
 pub fn list_len(docs: &[u32], scores: &[u16]) -> usize
     requires { ⌜ Paired (now docs) (now scores) ⌝ }
-    ensures { λ r. ⌜ ((t : ℕ) → r ≡ length (listBytes t (postings (now (docs .entry)) (now (scores .entry))))) ⌝ }
+    ensures { λ r. ⌜ ((strip : Bool) (t : ℕ) → r ≡ length (listBytes strip t (postings (now (docs .entry)) (now (scores .entry))))) ⌝ }
 {
     let mut n = 8;
     let mut a = 0;
@@ -93,15 +94,22 @@ pub fn list_len(docs: &[u32], scores: &[u16]) -> usize
 }
 
 // Stores the list at a place that has room, and gives the place past it.
-pub fn put_list(out: &mut [u8], at: usize, term: u32, docs: &[u32], scores: &[u16]) -> usize
-    requires { ⌜ Paired (now docs) (now scores) × (at + length (listBytes term (postings (now docs) (now scores))) ≤ length (now out)) ⌝ }
-    ensures { λ r. ⌜ Stored (now (out .entry)) (now (out .exit)) at r (listBytes term (postings (now (docs .entry)) (now (scores .entry)))) ⌝ }
+pub fn put_list(
+    out: &mut [u8],
+    at: usize,
+    strip: bool,
+    term: u32,
+    docs: &[u32],
+    scores: &[u16],
+) -> usize
+    requires { ⌜ Paired (now docs) (now scores) × (at + length (listBytes strip term (postings (now docs) (now scores))) ≤ length (now out)) ⌝ }
+    ensures { λ r. ⌜ Stored (now (out .entry)) (now (out .exit)) at r (listBytes strip term (postings (now (docs .entry)) (now (scores .entry)))) ⌝ }
 {
     let full = model::PER_BLOCK as usize;
     let count = (docs.len() + full - 1) / full;
     let a = put_header(out, at, term, count as u8);
-    let b = put_summaries(out, a, docs, scores);
-    put_bodies(out, b, docs, scores)
+    let b = put_summaries(out, a, strip, docs, scores);
+    put_bodies(out, b, strip, docs, scores)
 }
 
 // ---- the writer
@@ -131,9 +139,9 @@ fn first_fault(docs: &[u32], scores: &[u16]) -> usize
     i
 }
 
-// Writes a list to the front of a buffer, which a refusal leaves as it was.
-pub fn write_list(term: u32, docids: &[u32], scores: &[u16], out: &mut [u8]) -> Answer
-    ensures { λ r. ⌜ Gives (writeList term (now (docids .entry)) (now (scores .entry)) (length (now (out .entry)))) (now (out .entry)) (now (out .exit)) r ⌝ }
+// Writes a list, in the layout that is told, to the front of a buffer, which a refusal leaves as it was.
+pub fn write_list(strip: bool, term: u32, docids: &[u32], scores: &[u16], out: &mut [u8]) -> Answer
+    ensures { λ r. ⌜ Gives (writeList strip term (now (docids .entry)) (now (scores .entry)) (length (now (out .entry)))) (now (out .entry)) (now (out .exit)) r ⌝ }
 {
     let n = docids.len();
     let m = scores.len();
@@ -160,5 +168,5 @@ pub fn write_list(term: u32, docids: &[u32], scores: &[u16], out: &mut [u8]) -> 
     if out.len() < size {
         return Answer::Refused(9, 0);
     }
-    Answer::Done(put_list(out, 0, term, docids, scores))
+    Answer::Done(put_list(out, 0, strip, term, docids, scores))
 }

@@ -15,7 +15,8 @@ use Rattle.model.proofs.Lists.{split}
 use Rattle.wire.specs.Field.{whole, fieldLen, fieldValue}
 use Rattle.wire.proofs.Fields.{value-length}
 use Rattle.block.specs.Summary.{sumOf}
-use Rattle.shelf.specs.Walk.{Block, Listing, bodies, blocksOf, blocksAt}
+use Rattle.block.specs.Body.{isStrip, tagOf}
+use Rattle.shelf.specs.Walk.{Block, Listing, bodiesOf, bodies, blocksOf, blocksAt}
 use Rattle.shelf.specs.Answers.{Ready}
 use Rattle.lookup.specs.Find.{found, shownOf}
 use Rattle.lookup.specs.Show.{bodiesFrom, hasBlock, summaryShown, partAt, partPast, bodyShown, blockOf, summaryOfBlock, partOfBlock}
@@ -23,7 +24,7 @@ use Rattle.shelf.specs.declared.walk.Place.{Place}
 use Rattle.lookup.specs.declared.find.Shown.the-variants as shown
 use Rattle.lookup.specs.declared.find.SummaryShown.the-variants.{Numbers, NoSummary}
 use Rattle.lookup.specs.declared.find.BodyShown.the-variants.{NoBody}
-use Rattle.shelf.proofs.Walks.{bodies-none, bodies-step, bodies-whole}
+use Rattle.shelf.proofs.Walks.{bodies-none, bodies-step, bodies-whole, strip-is}
 use Rattle.lookup.proofs.Stands.{found-stands}
 
 and-is : (b : Bool) → (b && true) ≡ b
@@ -38,49 +39,53 @@ ltb-suc j n =
     (λ e. rw e (lt-ltb (suc j) (suc n) (omega (arith, ltb-true j n e))))
     (λ e. rw e (le-ltb (suc j) (suc n) (omega (arith, ltb-false j n e))))
 
-nth-summary : (n a b j : ℕ) (s : List ℕ) →
-    summaryOfBlock (blockOf (blocksOf n a (drop a s) b (drop b s)) j) ≡ cond (ltb j n) (Numbers (sumOf (drop (a + 12 * j) s))) (NoSummary 12 0)
-unfolding blocksOf
-nth-summary zero a b j s = rw (le-ltb j 0 (omega arith))
-nth-summary (suc n) a b zero s =
-    let e : a + 12 * 0 ≡ a = omega arith in
-    rw (lt-ltb 0 (suc n) (omega arith), e)
-nth-summary (suc n) a b (suc j) s =
-    let k = 3 + fieldLen (drop b s) in
-    let e : a + 12 + 12 * j ≡ a + 12 * suc j = omega arith in
-    rw (drop-drop 12 a s, drop-drop k b s, ltb-suc j n) (nth-summary n (a + 12) (b + k) j s ∙ rw e)
+module _ (strip : Bool) where
+  nth-summary : (n a b j end : ℕ) (s : List ℕ) → bodiesOf strip n b (drop b s) ≡ done end →
+      summaryOfBlock (blockOf (blocksOf n a (drop a s) b (drop b s)) j) ≡ cond (ltb j n) (Numbers (sumOf strip (drop (a + 12 * j) s))) (NoSummary 12 0)
+  unfolding blocksOf
+  nth-summary zero a b j end s h = rw (le-ltb j 0 (omega arith))
+  nth-summary (suc n) a b zero end s h =
+      let e : a + 12 * 0 ≡ a = omega arith in
+      let w = bodies-whole strip (suc n) b s end (omega arith) h in
+      rw (lt-ltb 0 (suc n) (omega arith), e, strip-is strip (drop b s) w)
+  nth-summary (suc n) a b (suc j) end s h =
+      let k = 3 + fieldLen (drop b s) in
+      let e : a + 12 + 12 * j ≡ a + 12 * suc j = omega arith in
+      let w = bodies-whole strip (suc n) b s end (omega arith) h in
+      let rest : bodiesOf strip n (b + k) (drop (b + k) s) ≡ done end = rw (bodies-step strip (suc n) b s (omega arith) w, sub-one) at h in
+      rw (drop-drop 12 a s, drop-drop k b s, ltb-suc j n) (nth-summary n (a + 12) (b + k) j end s rest ∙ rw e)
 
-nth-body : (n a b j end : ℕ) (m s : List ℕ) → bodies n b (drop b s) ≡ done end →
-    partOfBlock (blockOf (blocksOf n a m b (drop b s)) j) ≡ cond (ltb j n) (partPast s (bodies j b (drop b s))) (NoBody 12 0)
-unfolding blocksOf partAt
-nth-body zero a b j end m s h = rw (le-ltb j 0 (omega arith))
-nth-body (suc n) a b zero end m s h =
-    let w = bodies-whole (suc n) b s end (omega arith) h in
-    rw (lt-ltb 0 (suc n) (omega arith), bodies-none 0 b s (omega arith), w, value-length 3 (drop b s) w)
-nth-body (suc n) a b (suc j) end m s h =
-    let k = 3 + fieldLen (drop b s) in
-    let w = bodies-whole (suc n) b s end (omega arith) h in
-    let rest : bodies n (b + k) (drop (b + k) s) ≡ done end = rw (bodies-step (suc n) b s (omega arith) w, sub-one) at h in
-    rw (drop-drop k b s, bodies-step (suc j) b s (omega arith) w, sub-one, ltb-suc j n) (nth-body n (a + 12) (b + k) j end (drop 12 m) s rest)
+  nth-body : (n a b j end : ℕ) (m s : List ℕ) → bodiesOf strip n b (drop b s) ≡ done end →
+      partOfBlock (blockOf (blocksOf n a m b (drop b s)) j) ≡ cond (ltb j n) (partPast s (bodiesOf strip j b (drop b s))) (NoBody 12 0)
+  unfolding blocksOf partAt
+  nth-body zero a b j end m s h = rw (le-ltb j 0 (omega arith))
+  nth-body (suc n) a b zero end m s h =
+      let w = bodies-whole strip (suc n) b s end (omega arith) h in
+      rw (lt-ltb 0 (suc n) (omega arith), bodies-none strip 0 b s (omega arith), strip-is strip (drop b s) w, w, value-length (tagOf strip) (drop b s) w)
+  nth-body (suc n) a b (suc j) end m s h =
+      let k = 3 + fieldLen (drop b s) in
+      let w = bodies-whole strip (suc n) b s end (omega arith) h in
+      let rest : bodiesOf strip n (b + k) (drop (b + k) s) ≡ done end = rw (bodies-step strip (suc n) b s (omega arith) w, sub-one) at h in
+      rw (drop-drop k b s, bodies-step strip (suc j) b s (omega arith) w, sub-one, ltb-suc j n) (nth-body n (a + 12) (b + k) j end (drop 12 m) s rest)
 
 -- a body's bytes stand in the shelf past its tag and its length
 abbrev InShelf : List ℕ → Block → Type 0
 InShelf s b = take (length (b .body)) (drop (b .bodyAt + 3) s) ≡ b .body
 
-value-stands : (s : List ℕ) (b : ℕ) → whole 3 (drop b s) ≡ true → take (length (fieldValue (drop b s))) (drop (b + 3) s) ≡ fieldValue (drop b s)
+value-stands : (t : ℕ) (s : List ℕ) (b : ℕ) → whole t (drop b s) ≡ true → take (length (fieldValue (drop b s))) (drop (b + 3) s) ≡ fieldValue (drop b s)
 unfolding fieldValue
-value-stands s b w =
-    let e : length (take (fieldLen (drop b s)) (drop 3 (drop b s))) ≡ fieldLen (drop b s) = value-length 3 (drop b s) w in
+value-stands t s b w =
+    let e : length (take (fieldLen (drop b s)) (drop 3 (drop b s))) ≡ fieldLen (drop b s) = value-length t (drop b s) w in
     rw (e, drop-drop 3 b s)
 
-bodies-stand : (n a b end : ℕ) (m s : List ℕ) → bodies n b (drop b s) ≡ done end → All (InShelf s) (blocksOf n a m b (drop b s))
+bodies-stand : (strip : Bool) (n a b end : ℕ) (m s : List ℕ) → bodiesOf strip n b (drop b s) ≡ done end → All (InShelf s) (blocksOf n a m b (drop b s))
 unfolding blocksOf
-bodies-stand zero a b end m s h = tt
-bodies-stand (suc n) a b end m s h =
+bodies-stand strip zero a b end m s h = tt
+bodies-stand strip (suc n) a b end m s h =
     let k = 3 + fieldLen (drop b s) in
-    let w = bodies-whole (suc n) b s end (omega arith) h in
-    let rest : bodies n (b + k) (drop (b + k) s) ≡ done end = rw (bodies-step (suc n) b s (omega arith) w, sub-one) at h in
-    rw (drop-drop k b s) (value-stands s b w, bodies-stand n (a + 12) (b + k) end (drop 12 m) s rest)
+    let w = bodies-whole strip (suc n) b s end (omega arith) h in
+    let rest : bodiesOf strip n (b + k) (drop (b + k) s) ≡ done end = rw (bodies-step strip (suc n) b s (omega arith) w, sub-one) at h in
+    rw (drop-drop k b s) (value-stands (tagOf strip) s b w, bodies-stand strip n (a + 12) (b + k) end (drop 12 m) s rest)
 
 block-has : (P : Block → Type 0) (bs : List Block) (j : ℕ) (b : Block) → blockOf bs j ≡ done b → All P bs → P b
 block-has P [] j b e all = let z : _≡_ {A = ℕ} 0 1 = cc in absurd (omega arith)
@@ -95,12 +100,12 @@ module _ (s : List ℕ) (p : Place) (r : Ready s p) (j : ℕ) where
   has-is = rw (le-leb (bodiesFrom p) (length s) (r .room)) (and-is (ltb j (p .count)))
 
   ready-summary : summaryShown s (shown.List p) j ≡ summaryOfBlock (blockOf (blocksAt s (p .at) (p .count)) j)
-  unfolding summaryShown blocksAt
-  ready-summary = rw has-is (sym (nth-summary (p .count) (p .at + 8) (bodiesFrom p) j s))
+  unfolding summaryShown blocksAt bodies
+  ready-summary = rw has-is (sym (nth-summary (isStrip (drop (bodiesFrom p) s)) (p .count) (p .at + 8) (bodiesFrom p) j (p .next) s (r .bodied)))
 
   ready-body : bodyShown s (shown.List p) j ≡ partOfBlock (blockOf (blocksAt s (p .at) (p .count)) j)
-  unfolding bodyShown blocksAt
-  ready-body = rw has-is (sym (nth-body (p .count) (p .at + 8) (bodiesFrom p) j (p .next) (drop (p .at + 8) s) s (r .bodied)))
+  unfolding bodyShown blocksAt bodies
+  ready-body = rw has-is (sym (nth-body (isStrip (drop (bodiesFrom p) s)) (p .count) (p .at + 8) (bodiesFrom p) j (p .next) (drop (p .at + 8) s) s (r .bodied)))
 
 module _ (t : ℕ) (s : List ℕ) (l : Listing) (e : found t s ≡ done l) (j : ℕ) where
   pub shown-summary : summaryShown s (shownOf (found t s)) j ≡ summaryOfBlock (blockOf (l .blocks) j)
@@ -110,9 +115,9 @@ module _ (t : ℕ) (s : List ℕ) (l : Listing) (e : found t s ≡ done l) (j : 
   shown-body = let k = found-stands t s l e in rw (e, k .blocks) (ready-body s (l .place) (k .ready) j)
 
   pub shown-bytes : (b : Block) → blockOf (l .blocks) j ≡ done b → take (length (b .body)) (drop (b .bodyAt + 3) s) ≡ b .body
-  unfolding blocksAt
+  unfolding blocksAt bodies
   shown-bytes b q =
       let k = found-stands t s l e in
       let p = l .place in
       let f : blockOf (blocksAt s (p .at) (p .count)) j ≡ done b = sym (ap (λ (x : List Block). blockOf x j) (k .blocks)) ∙ q in
-      block-has (InShelf s) (blocksAt s (p .at) (p .count)) j b f (bodies-stand (p .count) (p .at + 8) (bodiesFrom p) (p .next) (drop (p .at + 8) s) s (k .ready .bodied))
+      block-has (InShelf s) (blocksAt s (p .at) (p .count)) j b f (bodies-stand (isStrip (drop (bodiesFrom p) s)) (p .count) (p .at + 8) (bodiesFrom p) (p .next) (drop (p .at + 8) s) s (k .ready .bodied))

@@ -12,6 +12,7 @@ use Rattle.wire.specs.Field.{fieldAt}
 use Rattle.wire.specs.declared.field.FieldRead.the-variants.{Whole, Missing}
 use Rattle.wire.proofs.Fields.{field-is, field-not}
 use Rattle.block.specs.Summary.{sumOf}
+use Rattle.block.specs.Body.{isStrip, tagOf}
 use Rattle.shelf.specs.Walk.{bodies}
 use Rattle.shelf.specs.Answers.{placeOf}
 use Rattle.lookup.specs.Show.{bodiesFrom, hasBlock, summaryShown, partAt, bodyShown}
@@ -53,7 +54,7 @@ module _ (s : List ℕ) (p : Place) (j : ℕ) where
 
   -- ---- its summary
 
-  pub summary-here : hasBlock s p j ≡ true → summaryShown s (shown.List p) j ≡ Numbers (sumOf (drop (p .at + 8 + 12 * j) s))
+  pub summary-here : hasBlock s p j ≡ true → summaryShown s (shown.List p) j ≡ Numbers (sumOf (isStrip (drop (bodiesFrom p) s)) (drop (p .at + 8 + 12 * j) s))
   unfolding summaryShown
   summary-here e = rw e
 
@@ -84,10 +85,10 @@ unfolding bodyShown
 body-refused s n o j = refl
 
 module _ (s : List ℕ) (b : ℕ) where
-  pub part-there : (n : ℕ) → fieldAt 3 s b ≡ Whole n → partAt s b ≡ Part (b + 3) (b + 3 + n)
+  pub part-there : (n : ℕ) → fieldAt (tagOf (isStrip (drop b s))) s b ≡ Whole n → partAt s b ≡ Part (b + 3) (b + 3 + n)
   unfolding partAt
-  part-there n e = let i = field-is 3 s b n e in rw (i .0, i .1)
+  part-there n e = let i = field-is (tagOf (isStrip (drop b s))) s b n e in rw (i .0, i .1)
 
-  pub part-none : fieldAt 3 s b ≡ Missing → partAt s b ≡ NoBody 12 0
+  pub part-none : fieldAt (tagOf (isStrip (drop b s))) s b ≡ Missing → partAt s b ≡ NoBody 12 0
   unfolding partAt
-  part-none e = rw (field-not 3 s b e)
+  part-none e = rw (field-not (tagOf (isStrip (drop b s))) s b e)

@@ -15,6 +15,7 @@ use Rattle.model.proofs.Storing.{Rest, rest-start, rest-turn, rest-end, stored-
 use Rattle.block.specs.declared.summary.Summary.{Summary}
 use Rattle.shelf.specs.Walk.{Block, blocksOf, blocksAt}
 use Rattle.shelf.specs.Blocks.{blocksLeft, Rests, Finds}
+use Rattle.shelf.proofs.Readings.{stands-rests}
 use Rattle.lookup.specs.Table.{least, greatest, top, count, tagAt, maxBlocks, Five, runs, Layable, Lays, foundLists, Gatherable, flat, endsFrom, Gathered}
 use Rattle.shelf.specs.declared.blocks.Reading.{Reading}
 
@@ -58,7 +59,7 @@ laying-start s at n j to h z =
     let k = h .ready (omega arith) in
     let bs = blocksAt s at n in
     record {
-      rests = record { room = k .1 .room; end = k .0; bodied = k .1 .bodied };
+      rests = stands-rests s at n (k .0) (k .1);
       room = omega (arith, h .room, blocks-length s at n);
       los = rest-start (to .los) j (map least bs);
       his = rest-start (to .his) j (map greatest bs);

@@ -8,6 +8,7 @@ use lib.ListN.{length, drop}
 use Rattle.model.specs.Outcome.{Outcome, refused, done}
 use Rattle.wire.specs.Field.{whole, fieldLen}
 use Rattle.block.specs.Summary.{sumOf}
+use Rattle.block.specs.Body.{isStrip, tagOf}
 use Rattle.shelf.specs.Walk.{Block, bodies}
 use Rattle.shelf.specs.declared.walk.Place.{Place}
 use Rattle.lookup.specs.declared.find.Shown.{Shown}
@@ -25,14 +26,14 @@ bodiesFrom p = p .at + 8 + 12 * p .count
 unfoldable pub hasBlock : List ℕ → Place → ℕ → Bool
 hasBlock s p j = ltb j (p .count) && leb (bodiesFrom p) (length s)
 
--- "block .. not there: 12"
+-- "block .. not there: 12"; the list's bodies have the first one's layout
 unfoldable pub summaryShown : List ℕ → Shown → ℕ → SummaryShown
 summaryShown s (shown.Refused n o) j = NoSummary n o
-summaryShown s (shown.List p) j = cond (hasBlock s p j) (Numbers (sumOf (drop (p .at + 8 + 12 * j) s))) (NoSummary 12 0)
+summaryShown s (shown.List p) j = cond (hasBlock s p j) (Numbers (sumOf (isStrip (drop (bodiesFrom p) s)) (drop (p .at + 8 + 12 * j) s))) (NoSummary 12 0)
 
 -- the body whose tag stands at a place: where its value starts and ends
 unfoldable pub partAt : List ℕ → ℕ → BodyShown
-partAt s b = cond (whole 3 (drop b s)) (Part (b + 3) (b + 3 + fieldLen (drop b s))) (NoBody 12 0)
+partAt s b = cond (whole (tagOf (isStrip (drop b s))) (drop b s)) (Part (b + 3) (b + 3 + fieldLen (drop b s))) (NoBody 12 0)
 
 -- past the bodies before it
 abbrev pub partPast : List ℕ → Outcome ℕ → BodyShown

@@ -92,7 +92,8 @@ pub fn summary_shown(s: &[u8], shown: Shown, j: usize) -> SummaryShown
             if !has_block(s, p, j) {
                 return SummaryShown::NoSummary(12, 0);
             }
-            SummaryShown::Numbers(block::summary::summary_in(s, p.at + 8 + 12 * j))
+            let strip = block::body::is_strip(s, p.at + 8 + 12 * (p.count as usize));
+            SummaryShown::Numbers(block::summary::summary_in(s, p.at + 8 + 12 * j, strip))
         }
         Shown::Refused(n, o) => SummaryShown::NoSummary(n, o),
     }
@@ -102,7 +103,8 @@ pub fn summary_shown(s: &[u8], shown: Shown, j: usize) -> SummaryShown
 fn part_at(s: &[u8], at: usize) -> BodyShown
     ensures { λ r. ⌜ r ≡ partAt (now (s .entry)) at ⌝ }
 {
-    match wire::field::field(s, at, 3) {
+    let tag = block::body::tag_of(block::body::is_strip(s, at));
+    match wire::field::field(s, at, tag) {
         FieldRead::Whole(len) => BodyShown::Part(at + 3, at + 3 + len),
         FieldRead::Missing => BodyShown::NoBody(12, 0),
     }

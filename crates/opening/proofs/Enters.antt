@@ -8,6 +8,7 @@ use lib.ListN.{length, getD}
 use borrow.Author.Tests.{eq-eqb, ne-eqb}
 use Rattle.model.proofs.Lists.{split}
 use Rattle.block.specs.Body.{rightBody, bodyRun}
+use Rattle.block.specs.declared.summary.Summary.{Summary}
 use Rattle.scan.specs.Load.{Loads, headOf}
 use Rattle.scan.specs.declared.head.Head.{Head}
 use Rattle.scan.specs.declared.load.Loaded.{Loaded}
@@ -23,17 +24,19 @@ module _ (s los his tops counts bodies : List ℕ) (w t was m : ℕ) (h : Head) 
   pub enter-gap : (g : Head) → (m ≡ was → ⊥) → m ≡ gap → g ≡ headOf w t [] → Enters s los his tops counts bodies w t was m h ds ss ds ss (record { head = g; fresh = 0; wrong = length s })
   enter-gap g n e q = record { answer = rw (ne-eqb m was n, eq-eqb m gap e, q); docids = rw (ne-eqb m was n, eq-eqb m gap e); scored = rw (ne-eqb m was n, eq-eqb m gap e) }
 
-  module _ (n : m ≡ was → ⊥) (k : m ≡ gap → ⊥) (body ds′ ss′ : List ℕ) (r : Loaded) (b : body ≡ bytesIn s bodies m) (l : Loads (sumIn los his tops counts m) body w t ds ss ds′ ss′ r) where
-    loads : Loads (sumIn los his tops counts m) (bytesIn s bodies m) w t ds ss ds′ ss′ r
-    loads = rw b at l
+  -- a block loaded by a summary and a body that the code has worked out
+  module _ (n : m ≡ was → ⊥) (k : m ≡ gap → ⊥) (sum : Summary) (body ds′ ss′ : List ℕ) (r : Loaded) (f : sum ≡ sumIn s los his tops counts bodies m) (b : body ≡ bytesIn s bodies m)
+      (l : Loads sum body w t ds ss ds′ ss′ r) where
+    loads : Loads (sumIn s los his tops counts bodies m) (bytesIn s bodies m) w t ds ss ds′ ss′ r
+    loads = rw (f, b) at l
 
     pub enter-stands : (g : Head) → r ≡ Stands g → Enters s los his tops counts bodies w t was m h ds ss ds′ ss′ (record { head = g; fresh = 1; wrong = length s })
     enter-stands g e =
-        let sum = sumIn los his tops counts m in
+        let own = sumIn s los his tops counts bodies m in
         let a = loads .answer in
-        split (rightBody sum (bytesIn s bodies m))
-        (λ x. let y : r ≡ Stands (headOf w t (bodyRun sum (bytesIn s bodies m))) = rw x at a in
-        let z : g ≡ headOf w t (bodyRun sum (bytesIn s bodies m)) = cc in
+        split (rightBody own (bytesIn s bodies m))
+        (λ x. let y : r ≡ Stands (headOf w t (bodyRun own (bytesIn s bodies m))) = rw x at a in
+        let z : g ≡ headOf w t (bodyRun own (bytesIn s bodies m)) = cc in
         record {
           answer = rw (ne-eqb m was n, ne-eqb m gap k, x, z);
           docids = rw (ne-eqb m was n, ne-eqb m gap k) (loads .docids);
@@ -43,10 +46,10 @@ module _ (s los his tops counts bodies : List ℕ) (w t was m : ℕ) (h : Head) 
 
     pub enter-wrong : (g : Head) → g ≡ headOf w t [] → r ≡ Wrong → Enters s los his tops counts bodies w t was m h ds ss ds′ ss′ (record { head = g; fresh = 1; wrong = getD bodies m 0 })
     enter-wrong g q e =
-        let sum = sumIn los his tops counts m in
+        let own = sumIn s los his tops counts bodies m in
         let a = loads .answer in
-        split (rightBody sum (bytesIn s bodies m))
-        (λ x. let y : r ≡ Stands (headOf w t (bodyRun sum (bytesIn s bodies m))) = rw x at a in let z : _≡_ {A = ℕ} 0 1 = cc in absurd (omega arith))
+        split (rightBody own (bytesIn s bodies m))
+        (λ x. let y : r ≡ Stands (headOf w t (bodyRun own (bytesIn s bodies m))) = rw x at a in let z : _≡_ {A = ℕ} 0 1 = cc in absurd (omega arith))
         (λ x. record {
           answer = rw (ne-eqb m was n, ne-eqb m gap k, x, q);
           docids = rw (ne-eqb m was n, ne-eqb m gap k) (loads .docids);
@@ -61,4 +64,4 @@ enter-few s los his tops counts bodies w t was m h ds ss ds′ ss′ r en =
     (λ e. rw e (omega arith))
     (λ e. split (eqb m gap)
     (λ g. rw (e, g) (omega arith))
-    (λ g. split (rightBody (sumIn los his tops counts m) (bytesIn s bodies m)) (λ x. rw (e, g, x) (omega arith)) (λ x. rw (e, g, x) (omega arith)))))
+    (λ g. split (rightBody (sumIn s los his tops counts bodies m) (bytesIn s bodies m)) (λ x. rw (e, g, x) (omega arith)) (λ x. rw (e, g, x) (omega arith)))))

@@ -40,11 +40,11 @@ unfolding fieldValue
 bytes-value s h = bytes-take (fieldLen s) (drop 3 s) (bytes-drop 3 s h)
 
 -- a right body's docids rise
-pub rises-of : (s los his tops counts bodies : List ℕ) (m : ℕ) → Bytes s → Loadable s los his tops counts bodies m → rightBody (sumIn los his tops counts m) (bytesIn s bodies m) ≡ true
-    → Asc 0 (docs (bodyRun (sumIn los his tops counts m) (bytesIn s bodies m)))
+pub rises-of : (s los his tops counts bodies : List ℕ) (m : ℕ) → Bytes s → Loadable s los his tops counts bodies m → rightBody (sumIn s los his tops counts bodies m) (bytesIn s bodies m) ≡ true
+    → Asc 0 (docs (bodyRun (sumIn s los his tops counts bodies m) (bytesIn s bodies m)))
 rises-of s los his tops counts bodies m b l e =
-    let r = right-body (sumIn los his tops counts m) (bytesIn s bodies m) (bytes-value (drop (getD bodies m 0) s) (bytes-drop (getD bodies m 0) s b)) (l .some) e in
-    rw (run-all (sumIn los his tops counts m) (bytesIn s bodies m) (r .posts) (r .taken) (r .reads)) (rising-asc 0 (r .posts) (r .whole .rise 0 (l .above)))
+    let r = right-body (sumIn s los his tops counts bodies m) (bytesIn s bodies m) (bytes-value (drop (getD bodies m 0) s) (bytes-drop (getD bodies m 0) s b)) (l .some) e in
+    rw (run-all (sumIn s los his tops counts bodies m) (bytesIn s bodies m) (r .posts) (r .taken) (r .reads)) (rising-asc 0 (r .posts) (r .whole .rise 0 (l .above)))
 
 -- ---- one list
 
@@ -59,7 +59,7 @@ stood-stands ds ss w p t body ps h e a s = record {
 -- where the code stores nothing, and where it stores a body
 module _ (s los his tops counts bodies : List ℕ) (w t was m : ℕ) (ds ss : List ℕ) (b : Bytes s) (mine : t < maxTerms) (n : length ds ≡ roomy) (k : length ss ≡ roomy)
     (ok : (m ≡ gap → ⊥) → Loadable s los his tops counts bodies m) where
-  loadable : (m ≡ gap → ⊥) → load.Loadable (sumIn los his tops counts m) t ds ss
+  loadable : (m ≡ gap → ⊥) → load.Loadable (sumIn s los his tops counts bodies m) t ds ss
   loadable g = let l = ok g in record { some = l .some; most = l .most; order = l .order; below = l .below; mine = mine; docids = n; scored = k }
 
   none-roomed : Roomed t [] ds ss
@@ -71,7 +71,7 @@ module _ (s los his tops counts bodies : List ℕ) (w t was m : ℕ) (ds ss : Li
       (λ e. rw e none-roomed)
       (λ e. split (eqb m gap)
       (λ g. rw (e, g) none-roomed)
-      (λ g. rw (e, g) (load-room (sumIn los his tops counts m) (bytesIn s bodies m) t ds ss (loadable (eqb-false m gap g)))))
+      (λ g. rw (e, g) (load-room (sumIn s los his tops counts bodies m) (bytesIn s bodies m) t ds ss (loadable (eqb-false m gap g)))))
 
   module _ (h : Head) (ds′ ss′ : List ℕ) (r : Entry) (en : Enters s los his tops counts bodies w t was m h ds ss ds′ ss′ r) where
     pub docs-long : length ds′ ≡ roomy
@@ -92,15 +92,15 @@ module _ (s los his tops counts bodies : List ℕ) (w t was m : ℕ) (ds ss : Li
         (λ e. split (eqb m gap)
         (λ g. let a : r ≡ record { head = headOf w t []; fresh = 0; wrong = length s } = rw (e, g) at (en .answer) in
         rw (a, g) (stood-stands ds′ ss′ w p t (done []) [] (headOf w t []) refl tt empty))
-        (λ g. split (rightBody (sumIn los his tops counts m) (bytesIn s bodies m))
-        (λ x. let run = bodyRun (sumIn los his tops counts m) (bytesIn s bodies m) in
+        (λ g. split (rightBody (sumIn s los his tops counts bodies m) (bytesIn s bodies m))
+        (λ x. let run = bodyRun (sumIn s los his tops counts bodies m) (bytesIn s bodies m) in
         let a : r ≡ record { head = headOf w t run; fresh = 1; wrong = length s } = rw (e, g, x) at (en .answer) in
         let y : ds′ ≡ sets ds (partOf t) (docs run) = rw (e, g) at (en .docids) in
         let z : ss′ ≡ sets ss (partOf t) (scores run) = rw (e, g) at (en .scored) in
         let ng : (m ≡ gap → ⊥) = eqb-false m gap g in
         rw (a, g, x, y, z)
         (stood-stands (sets ds (partOf t) (docs run)) (sets ss (partOf t) (scores run)) w p t (done run) run (headOf w t run) refl (rises-of s los his tops counts bodies m b (ok ng) x)
-        (stood w t run ds ss (load-room (sumIn los his tops counts m) (bytesIn s bodies m) t ds ss (loadable ng)))))
+        (stood w t run ds ss (load-room (sumIn s los his tops counts bodies m) (bytesIn s bodies m) t ds ss (loadable ng)))))
         (λ x. let a : r ≡ record { head = headOf w t []; fresh = 1; wrong = getD bodies m 0 } = rw (e, g, x) at (en .answer) in
         rw (a, g, x) (stood-stands ds′ ss′ w p t (refused 8 (getD bodies m 0)) [] (headOf w t []) refl tt empty))))
       where
@@ -126,7 +126,7 @@ module _ (s los his tops counts bodies : List ℕ) (w t was m : ℕ) (ds ss : Li
         rw (en .answer, e, eq-eqb was m (sym q)) (split (eqb m gap) (λ g. rw g) (λ g. rw g)))
         (λ e. let nq : (m ≡ was → ⊥) = eqb-false m was e in
         rw (en .answer, e, ne-eqb was m (λ z. nq (sym z)))
-        (split (eqb m gap) (λ g. rw g) (λ g. rw g (split (rightBody (sumIn los his tops counts m) (bytesIn s bodies m)) (λ x. rw x) (λ x. rw x)))))
+        (split (eqb m gap) (λ g. rw g) (λ g. rw g (split (rightBody (sumIn s los his tops counts bodies m) (bytesIn s bodies m)) (λ x. rw x) (λ x. rw x)))))
 
     pub entered-wrong : faultOf (bodyOf (blockIn s los his tops counts bodies) was) ≡ none → under (length s) (r .wrong) ≡ faultOf (bodyOf (blockIn s los his tops counts bodies) m)
     entered-wrong f =
@@ -135,7 +135,7 @@ module _ (s los his tops counts bodies : List ℕ) (w t was m : ℕ) (ds ss : Li
         (λ e. let q : m ≡ was = eqb-true m was e in rw (en .answer, e, z) (sym (rw (sym q) at f)))
         (λ e. split (eqb m gap)
         (λ g. rw (en .answer, e, g, z))
-        (λ g. split (rightBody (sumIn los his tops counts m) (bytesIn s bodies m))
+        (λ g. split (rightBody (sumIn s los his tops counts bodies m) (bytesIn s bodies m))
         (λ x. rw (en .answer, e, g, x, z))
         (λ x. rw (en .answer, e, g, x, lt-ltb (getD bodies m 0) (length s) (omega (arith, ok (eqb-false m gap g) .whole))))))
 

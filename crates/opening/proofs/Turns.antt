@@ -96,7 +96,7 @@ module _ (s los his tops counts bodies : List ℕ) (b : Bytes s) where
   body-rises m ok =
       split (eqb m gap)
       (λ g. rw g tt)
-      (λ g. rw g (split (rightBody (sumIn los his tops counts m) (bytesIn s bodies m))
+      (λ g. rw g (split (rightBody (sumIn s los his tops counts bodies m) (bytesIn s bodies m))
       (λ e. rw e (rises-of s los his tops counts bodies m b (ok (eqb-false m gap g)) e))
       (λ e. rw e tt)))
 

@@ -47,15 +47,15 @@ bytesIn shelf bodies m = fieldValue (drop (getD bodies m 0) shelf)
 -- what is put into the buffers
 abbrev pub newRun : (shelf los his tops counts bodies : List ℕ) (was m : ℕ) → List Post
 newRun shelf los his tops counts bodies was m =
-    cond (eqb m was) [] (cond (eqb m gap) [] (bodyRun (sumIn los his tops counts m) (bytesIn shelf bodies m)))
+    cond (eqb m was) [] (cond (eqb m gap) [] (bodyRun (sumIn shelf los his tops counts bodies m) (bytesIn shelf bodies m)))
 
 -- the place is kept; it is at its end in a gap; a block that is new is loaded. A wrong body is told by the offset of its tag, the shelf's length tells of none
 abbrev pub entryOf : (shelf los his tops counts bodies : List ℕ) (weight t was m : ℕ) → Head → Entry
 entryOf shelf los his tops counts bodies weight t was m h =
     cond (eqb m was) (record { head = h; fresh = 0; wrong = length shelf })
     (cond (eqb m gap) (record { head = headOf weight t []; fresh = 0; wrong = length shelf })
-    (cond (rightBody (sumIn los his tops counts m) (bytesIn shelf bodies m))
-    (record { head = headOf weight t (bodyRun (sumIn los his tops counts m) (bytesIn shelf bodies m)); fresh = 1; wrong = length shelf })
+    (cond (rightBody (sumIn shelf los his tops counts bodies m) (bytesIn shelf bodies m))
+    (record { head = headOf weight t (bodyRun (sumIn shelf los his tops counts bodies m) (bytesIn shelf bodies m)); fresh = 1; wrong = length shelf })
     (record { head = headOf weight t []; fresh = 1; wrong = getD bodies m 0 })))
 
 pub record Enters (shelf los his tops counts bodies : List ℕ) (weight t was m : ℕ) (h : Head) (ds ss ds′ ss′ : List ℕ) (r : Entry) : Type 0 where

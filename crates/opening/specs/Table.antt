@@ -8,7 +8,7 @@ use Rattle.model.specs.Post.{Post}
 use Rattle.model.specs.Outcome.{Outcome, refused, done}
 use Rattle.model.specs.Runs.{All}
 use Rattle.wire.specs.Field.{fieldValue}
-use Rattle.block.specs.Body.{rightBody, bodyRun}
+use Rattle.block.specs.Body.{isStrip, rightBody, bodyRun}
 use Rattle.block.specs.declared.summary.Summary.{Summary}
 use Rattle.prune.specs.Cut.{Block, Listing, Rises}
 
@@ -35,8 +35,9 @@ listsIn block ends weights = numbered (listIn block ends weights) (length ends) 
 
 -- ---- the blocks by the runs of their numbers: least docid, greatest docid, greatest score, posting count, offset of the body's tag
 
-abbrev pub sumIn : (los his tops counts : List ℕ) → ℕ → Summary
-sumIn los his tops counts i = record { least = getD los i 0; greatest = getD his i 0; top = getD tops i 0; count = getD counts i 0 }
+abbrev pub sumIn : (shelf los his tops counts bodies : List ℕ) → ℕ → Summary
+sumIn shelf los his tops counts bodies i =
+    record { least = getD los i 0; greatest = getD his i 0; top = getD tops i 0; count = getD counts i 0; strip = isStrip (drop (getD bodies i 0) shelf) }
 
 -- what the body whose tag stands at a place reads as
 abbrev pub bodyIn : (shelf : List ℕ) → Summary → (at : ℕ) → Outcome (List Post)
@@ -44,7 +45,7 @@ bodyIn shelf m at = cond (rightBody m (fieldValue (drop at shelf))) (done (bodyR
 
 abbrev pub blockIn : (shelf los his tops counts bodies : List ℕ) → ℕ → Block
 blockIn shelf los his tops counts bodies i =
-    record { least = getD los i 0; greatest = getD his i 0; top = getD tops i 0; body = bodyIn shelf (sumIn los his tops counts i) (getD bodies i 0) }
+    record { least = getD los i 0; greatest = getD his i 0; top = getD tops i 0; body = bodyIn shelf (sumIn shelf los his tops counts bodies i) (getD bodies i 0) }
 
 -- the same by their summaries alone, which is all that cuts and ceilings look at
 abbrev pub sumBlock : (los his tops : List ℕ) → ℕ → Block

@@ -79,13 +79,14 @@ fn enter(
             wrong: none,
         };
     }
+    let at = bodies[met] as usize;
     let m = Summary {
         least: los[met],
         greatest: his[met],
         top: tops[met],
         count: counts[met],
+        strip: block::body::is_strip(shelf, at),
     };
-    let at = bodies[met] as usize;
     match scan::load::load(body_at(shelf, at), m, weight, t, docs, scores) {
         Loaded::Stands(h) => Entry {
             head: h,

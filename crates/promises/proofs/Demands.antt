@@ -17,14 +17,15 @@ use Rattle.rank.proofs.Matches.{any-matches}
 use Rattle.exhaustive.proofs.Sound.{termOn}
 use Rattle.lines.specs.Text.{refusalLine}
 use Rattle.report.specs.Report.{reported}
+use Rattle.convert.specs.Convert.{converted}
 use Rattle.promises.specs.Demands.{Demand1, Demand2, Demand3}
-use Rattle.promises.proofs.Refusals.{exactly-first, none-exactly, query-refuses, check-refuses, show-refuses, block-refuses, shows-the-block, read-refuses, write-refuses, edit-refuses, rank-refuses, search-refuses}
+use Rattle.promises.proofs.Refusals.{exactly-first, none-exactly, query-refuses, check-refuses, show-refuses, block-refuses, shows-the-block, read-refuses, write-refuses, edit-refuses, convert-refuses, rank-refuses, search-refuses}
 use Rattle.promises.proofs.Stops.{untouched, stopped-book}
 use Rattle.promises.proofs.Ranks.{ranking-best}
 use Rattle.promises.proofs.Ranking.{ranks-all, gets-the-ranking}
 use Rattle.promises.proofs.RoundTrips.{read-and-written}
 use Rattle.promises.proofs.Book.{room-enough, booked, cut-by}
-use Rattle.promises.proofs.Edits.{any-edits, adds-up, one-edit, ranks-what-was-set, books-what-was-set}
+use Rattle.promises.proofs.Edits.{any-edits, adds-up, one-edit, one-conversion, ranks-what-was-set, books-what-was-set}
 use Rattle.promises.proofs.Raised.{raised-is-shown}
 
 -- what a refusal leaves of a lent run
@@ -45,14 +46,16 @@ demand-1 = record {
   read = read-refuses;
   write = write-refuses;
   edit = edit-refuses;
+  convert = convert-refuses;
   rank = rank-refuses;
   search = search-refuses;
   program = too-long;
   exactly = exactly-first;
   never-without = none-exactly;
   read-keeps = λ t s ds ss n at e. (kept (docidsOf (readList t s _ _)) ds n at (rw e), kept (scoresOf (readList t s _ _)) ss n at (rw e));
-  write-keeps = λ t ds ss out n at e. kept (writeList t ds ss _) out n at e;
+  write-keeps = λ strip t ds ss out n at e. kept (writeList strip t ds ss _) out n at e;
   edit-keeps = λ x s out n at e. kept (edited x s _) out n at e;
+  convert-keeps = λ t s out n at e. kept (converted t s _) out n at e;
   search-keeps = untouched;
   search-stops = stopped-book;
 }
@@ -85,5 +88,6 @@ demand-3 = record {
   answers = ranks-what-was-set;
   books-any = λ q s x ls a rows fs cs ms r. (booked q s x ls a rows fs cs ms r, cut-by q s x ls a rows fs cs ms r);
   changes = one-edit;
+  converts = one-conversion;
   shows = raised-is-shown;
 }

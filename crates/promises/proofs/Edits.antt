@@ -16,7 +16,10 @@ use Rattle.shelf.specs.Check.{checked}
 use Rattle.lookup.specs.Gather.{termList, termBlocks}
 use Rattle.list.specs.Write.{Word, wordsOf}
 use Rattle.change.specs.Edits.{Edit, Set, Clear, Withdraw, setWord, unlessEmpty, clearWords, clearPost, only, every, applied, stored}
-use Rattle.edit.specs.History.{Try, shelfAfter, accepted, addUp, History}
+use Rattle.convert.specs.Convert.{turnWords}
+use Rattle.convert.proofs.Lists.{others-stay}
+use Rattle.convert.proofs.Leaves.{converted-leaves}
+use Rattle.edit.specs.History.{Act, Change, Convert, Try, shelfAfter, accepted, addUp, History}
 use Rattle.change.proofs.Postings.{Ordered, stored-applied}
 use Rattle.edit.proofs.Sounds.{edit-sound, edit-holds, others-copied, ceiling-holds}
 use Rattle.edit.proofs.Histories.{history}
@@ -27,12 +30,12 @@ use Rattle.exhaustive.proofs.Sound.{termOn}
 use Rattle.pruned.specs.Pruned.{searched}
 use Rattle.promises.specs.Served.{matchesFor, Asks, Room}
 use Rattle.promises.specs.Book.{Booked}
-use Rattle.promises.specs.Edits.{leftBy, postsIn, termIn, matchesIn, AllTermed, Accepted, Changes}
+use Rattle.promises.specs.Edits.{leftBy, postsIn, termIn, matchesIn, AllNamed, Accepted, Changes, Converting, Converts}
 use Rattle.promises.proofs.Ranking.{gets-the-ranking}
 use Rattle.promises.proofs.Written.{writing-bytes}
 use Rattle.promises.proofs.Book.{booked}
 
-pub any-edits : (es : List Try) → AllTermed es → History (shelfAfter es []) (addUp (accepted es []) [])
+pub any-edits : (es : List Try) → AllNamed es → History (shelfAfter es []) (addUp (accepted es []) [])
 any-edits es t = history es t
 
 -- ---- what they add up to
@@ -50,16 +53,16 @@ set-ordered floor t d w (x ∷ xs) l o =
     (λ f. let q : t ≡ x .term = eqb-true _ _ f in rw (e, f) (l, rw q (o .1)))
     (λ f. rw (e, f) (o .0, set-ordered (x .term + 1) t d w xs (omega (arith, ltb-false t (x .term) e, eqb-false t (x .term) f)) (o .1))))
 
-unless-ordered : (floor t : ℕ) (ps : List Post) (xs : List Word) → floor ≤ t → Ordered (t + 1) xs → Ordered floor (unlessEmpty t ps xs)
-unless-ordered floor t [] xs l o = ordered-less floor (t + 1) xs (omega arith) o
-unless-ordered floor t (p ∷ ps) xs l o = (l, o)
+unless-ordered : (strip : Bool) (floor t : ℕ) (ps : List Post) (xs : List Word) → floor ≤ t → Ordered (t + 1) xs → Ordered floor (unlessEmpty strip t ps xs)
+unless-ordered strip floor t [] xs l o = ordered-less floor (t + 1) xs (omega arith) o
+unless-ordered strip floor t (p ∷ ps) xs l o = (l, o)
 
 clear-ordered : (named : ℕ → Bool) (floor d : ℕ) (xs : List Word) → Ordered floor xs → Ordered floor (clearWords named d xs)
 clear-ordered named floor d [] o = tt
 clear-ordered named floor d (x ∷ xs) o =
     let ih = clear-ordered named (x .term + 1) d xs (o .1) in
     split (named (x .term))
-    (λ m. rw m (unless-ordered floor (x .term) (clearPost d (x .posts)) (clearWords named d xs) (o .0) ih))
+    (λ m. rw m (unless-ordered (x .strip) floor (x .term) (clearPost d (x .posts)) (clearWords named d xs) (o .0) ih))
     (λ m. rw m (o .0, ih))
 
 applied-ordered : (e : Edit) (xs : List Word) → Ordered 0 xs → Ordered 0 (applied e xs)
@@ -68,9 +71,22 @@ applied-ordered (Set t d w) xs o = set-ordered 0 t d w xs (omega arith) o
 applied-ordered (Clear t d) xs o = clear-ordered (only t) 0 d xs o
 applied-ordered (Withdraw d) xs o = clear-ordered every 0 d xs o
 
-added : (t d : ℕ) (es : List Edit) (ws : List Word) → Ordered 0 ws → stored t d (addUp es ws) ≡ leftBy t d (stored t d ws) es
+-- a conversion keeps the terms, and every posting
+turn-ordered : (floor u : ℕ) (xs : List Word) → Ordered floor xs → Ordered floor (turnWords u xs)
+turn-ordered floor u [] o = tt
+turn-ordered floor u (x ∷ xs) o =
+    let ih = turn-ordered (x .term + 1) u xs (o .1) in
+    split (eqb (x .term) u) (λ e. rw e (o .0, ih)) (λ e. rw e (o .0, ih))
+
+stored-turned : (t d u : ℕ) (xs : List Word) → stored t d (turnWords u xs) ≡ stored t d xs
+stored-turned t d u [] = refl
+stored-turned t d u (x ∷ xs) =
+    split (eqb (x .term) u) (λ e. rw (e, stored-turned t d u xs)) (λ e. rw (e, stored-turned t d u xs))
+
+added : (t d : ℕ) (es : List Act) (ws : List Word) → Ordered 0 ws → stored t d (addUp es ws) ≡ leftBy t d (stored t d ws) es
 added t d [] ws o = refl
-added t d (e ∷ es) ws o = added t d es (applied e ws) (applied-ordered e ws o) ∙ ap (λ (w : ℕ). leftBy t d w es) (stored-applied e t d ws o)
+added t d (Change e ∷ es) ws o = added t d es (applied e ws) (applied-ordered e ws o) ∙ ap (λ (w : ℕ). leftBy t d w es) (stored-applied e t d ws o)
+added t d (Convert u ∷ es) ws o = added t d es (turnWords u ws) (turn-ordered 0 u ws o) ∙ ap (λ (w : ℕ). leftBy t d w es) (stored-turned t d u ws)
 
 pub adds-up : (es : List Try) (t d : ℕ) → stored t d (addUp (accepted es []) []) ≡ leftBy t d 0 (accepted es [])
 adds-up es t d = added t d (accepted es []) [] tt
@@ -85,6 +101,17 @@ one-edit e s old v a =
       only = edit-holds e s old v (a .shelf-bytes) (a .sound) l;
       copies = others-copied e s old v (a .shelf-bytes) (a .sound) l;
       capped = ceiling-holds e s old v l;
+    }
+
+-- ---- a conversion of any sound shelf
+
+pub one-conversion : (t : ℕ) (s : List ℕ) (old : List Listing) (v : List ℕ) → Converting t s old v → Converts t s old v
+one-conversion t s old v c =
+    let l = converted-leaves t s old (c .room) v (c .shelf-bytes) (c .sound) (c .accepted) in
+    record {
+      turned = l;
+      same = λ u d. rw (l .holds) (stored-turned u d t (wordsOf old));
+      copies = λ u n. rw (l .kept) (others-stay t u s old (eqb-false u t n));
     }
 
 -- ---- a search of what a history leaves
@@ -104,7 +131,7 @@ terms-in ls (x ∷ xs) = rw (term-posts (x .term) ls, terms-in ls xs)
 pub matches-in : (x : Question) (ls : List Listing) → matchesFor x ls ≡ matchesIn x (wordsOf ls)
 matches-in x ls = ap (hitsOf anyList) (terms-in ls (x .terms))
 
-module _ (es : List Try) (t : AllTermed es) (ls : List Listing) (sound : checked (shelfAfter es []) ≡ done ls) where
+module _ (es : List Try) (t : AllNamed es) (ls : List Listing) (sound : checked (shelfAfter es []) ≡ done ls) where
   holds-words : wordsOf ls ≡ addUp (accepted es []) []
   holds-words = let same : ls ≡ any-edits es t .found = let z : done ls ≡ done (any-edits es t .found) = sym sound ∙ any-edits es t .sound in cc in ap wordsOf same ∙ any-edits es t .holds
 

@@ -19,6 +19,7 @@ use Rattle.shelf.specs.Walk as shelf
 use Rattle.shelf.specs.Walk.{blocksAt}
 use Rattle.shelf.specs.Blocks.{readingOf, blocksLeft}
 use Rattle.lookup.specs.Gather.{termList, termBlocks}
+use Rattle.shelf.proofs.Readings.{start-rests}
 use Rattle.shelf.proofs.Sounds as sounds
 use Rattle.shelf.proofs.Sounds.{sound-walk, sound-good}
 use Rattle.lookup.proofs.Stands.{Standing, walk-stands, term-has}
@@ -70,7 +71,7 @@ low-blocks : (s : List ℕ) (l : shelf.Listing) → Bytes s → Standing s l →
 unfolding blocksAt blocksLeft
 low-blocks s l h w =
     rw (w .blocks)
-    (left-low s (readingOf (l .place)) h (record { room = w .ready .room; end = l .place .next; bodied = w .ready .bodied }))
+    (left-low s (readingOf (l .place)) h (start-rests s (l .place) (w .ready)))
 
 blocks-good : (prev : ℕ) (bs : List shelf.Block) → sounds.Good prev bs → All (λ (b : shelf.Block). b .sum .greatest ≤ maxDocid) bs → Good maxDocid prev (map blockOf bs)
 blocks-good prev [] g low = tt

@@ -5,8 +5,8 @@ use Rattle.wire.specs.Number.{num, be}
 use Rattle.wire.specs.Field.{fieldLen, whole, fieldValue, fieldBytes}
 use Rattle.wire.specs.Gap.{more, gap, gapIn, score}
 use Rattle.block.specs.Summary.{isSum, sumOf, rightSum, sumBytes}
-use Rattle.block.specs.Body.{gapped, posting, posts, bodyPosts, rightBody, readTo, bodyRun, laterBytes, bodyBytes}
-use Rattle.shelf.specs.Walk.{headTerm, headCount, rightHead, oneSum, sums, oneBody, bodies, blocksOf, list, lists, walk}
+use Rattle.block.specs.Body.{isStrip, edge, gapped, posting, posts, bodyPosts, rightBody, readTo, bodyRun, laterBytes, frontBytes, backBytes, bodyBytes}
+use Rattle.shelf.specs.Walk.{headTerm, headCount, rightHead, oneSum, sums, oneBody, bodiesOf, bodies, blocksOf, list, lists, walk}
 use Rattle.shelf.specs.Check.{checked}
 use Rattle.list.specs.Write.{packed, sumsBytes, bodiesBytes, blocksBytes, listBytes}
 use Rattle.change.specs.Bytes.{changed, there, within, settled, edited}
@@ -20,5 +20,5 @@ use Rattle.report.specs.Report.{searchShown, reported}
 use Rattle.promises.specs.Marked.{Row, table}
 
 pub marked : map (λ (r : Row). r .does) table ≡ map (λ (r : Row). r .says) table
-unfolding searched reported searchShown asked judge fieldCount termCount termsIn isField whole fieldLen fieldValue fieldBytes num be checked walk lists list headTerm headCount rightHead oneSum sums oneBody bodies blocksOf isSum sumOf rightSum gapped posting posts bodyPosts rightBody readTo bodyRun more gap score ahead beats opens edited settled within there changed listBytes blocksBytes packed sumsBytes bodiesBytes sumBytes bodyBytes laterBytes gapIn querySize sizeIn ofQuery digits decimal numbers line hitLines intervalLines
+unfolding searched reported searchShown asked judge fieldCount termCount termsIn isField whole fieldLen fieldValue fieldBytes num be checked walk lists list headTerm headCount rightHead oneSum sums oneBody bodiesOf bodies blocksOf isSum sumOf rightSum isStrip edge gapped posting posts bodyPosts rightBody readTo bodyRun more gap score ahead beats opens edited settled within there changed listBytes blocksBytes packed sumsBytes bodiesBytes sumBytes bodyBytes frontBytes backBytes laterBytes gapIn querySize sizeIn ofQuery digits decimal numbers line hitLines intervalLines
 marked = refl

@@ -9,8 +9,9 @@ use Rattle.model.specs.Limits.{maxK, maxTerms, maxShelf}
 use Rattle.model.specs.Outcome.{Outcome, refused, done, andThen}
 use Rattle.model.specs.Runs.{has}
 use Rattle.block.specs.Summary.{isSum, sumOf, rightSum}
+use Rattle.block.specs.Body.{isStrip, tagOf}
 use Rattle.wire.specs.Field.{whole}
-use Rattle.shelf.specs.Walk.{headCount, rightHead, oneSum, sums, oneBody, bodies, list, lists, walk}
+use Rattle.shelf.specs.Walk.{headCount, rightHead, oneSum, sums, oneBody, bodiesOf, bodies, list, lists, walk}
 use Rattle.query.specs.Query.{Asked, Question, fieldCount, unless, allRight, weighted, unrepeated, judge, asked}
 use Rattle.query.specs.declared.fields.FieldsRead.{FieldsRead}
 use Rattle.query.specs.declared.fields.FieldsRead.the-variants.{Terms, Wrong}
@@ -73,19 +74,23 @@ SixOrSeven n = (6 ≤ n) × (n ≤ 7)
 sum-numbered : (prev at : ℕ) (s : List ℕ) → Numbered SixOrSeven (oneSum prev at s)
 unfolding oneSum
 sum-numbered prev at s =
-    either-numbered SixOrSeven (isSum s) (cond (rightSum prev (sumOf s)) (done (sumOf s .greatest)) (refused 7 at)) (refused 6 at)
-    (either-numbered SixOrSeven (rightSum prev (sumOf s)) (done (sumOf s .greatest)) (refused 7 at) tt (omega arith, omega arith)) (omega arith, omega arith)
+    either-numbered SixOrSeven (isSum s) (cond (rightSum prev (sumOf false s)) (done (sumOf false s .greatest)) (refused 7 at)) (refused 6 at)
+    (either-numbered SixOrSeven (rightSum prev (sumOf false s)) (done (sumOf false s .greatest)) (refused 7 at) tt (omega arith, omega arith)) (omega arith, omega arith)
 
 sums-numbered : (n prev at : ℕ) (s : List ℕ) → Numbered SixOrSeven (sums n prev at s)
 unfolding sums
 sums-numbered zero prev at s = tt
 sums-numbered (suc n) prev at s = then-numbered SixOrSeven (oneSum prev at s) _ (sum-numbered prev at s) (λ g. sums-numbered n g (at + 12) (drop 12 s))
 
+bodies-of-numbered : (strip : Bool) (n at : ℕ) (s : List ℕ) → Numbered SixOrSeven (bodiesOf strip n at s)
+unfolding bodiesOf oneBody
+bodies-of-numbered strip zero at s = tt
+bodies-of-numbered strip (suc n) at s =
+    then-numbered SixOrSeven (oneBody strip at s) _ (either-numbered SixOrSeven (whole (tagOf strip) s) _ (refused 6 at) tt (omega arith, omega arith)) (λ k. bodies-of-numbered strip n (at + k) (drop k s))
+
 bodies-numbered : (n at : ℕ) (s : List ℕ) → Numbered SixOrSeven (bodies n at s)
-unfolding bodies oneBody
-bodies-numbered zero at s = tt
-bodies-numbered (suc n) at s =
-    then-numbered SixOrSeven (oneBody at s) _ (either-numbered SixOrSeven (whole 3 s) _ (refused 6 at) tt (omega arith, omega arith)) (λ k. bodies-numbered n (at + k) (drop k s))
+unfolding bodies
+bodies-numbered n at s = bodies-of-numbered (isStrip s) n at s
 
 list-numbered : (floor at : ℕ) (s : List ℕ) → Numbered SixOrSeven (list floor at s)
 unfolding list

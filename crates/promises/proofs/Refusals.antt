@@ -40,7 +40,8 @@ use Rattle.exhaustive.specs.Lists.{listingsOf}
 use Rattle.exhaustive.specs.Exhaustive.{rankAll}
 use Rattle.intervals.specs.Blocks.{roomFor}
 use Rattle.pruned.specs.Pruned.{Sought, fitting, sought, answer, searched}
-use Rattle.promises.specs.Refusals.{Fault, row, firstFault, IsFirst, kIn, termsRead, termsAsked, fieldsFaults, queryFaults, listsOf, walkFault, bodyFault, listed, checkFaults, showFaults, blockShown, blockFaults, readFaults, writeFaults, editFaults, listsAsked, faultHere, rankFaults, searchFaults}
+use Rattle.convert.specs.Convert.{listed, turnedPieces, turning, converted}
+use Rattle.promises.specs.Refusals.{Fault, row, firstFault, IsFirst, kIn, termsRead, termsAsked, fieldsFaults, queryFaults, listsOf, walkFault, bodyFault, checkFaults, showFaults, blockShown, blockFaults, readFaults, writeFaults, editFaults, listsAsked, faultHere, rankFaults, searchFaults, convertFaults}
 
 -- ---- the order
 
@@ -214,14 +215,14 @@ read-refuses t s d w = go (walk s)
 
 -- ---- writing
 
-pub write-refuses : (t : ℕ) (ds ss : List ℕ) (room : ℕ) → judged (writeList t ds ss room) ≡ firstFault (writeFaults t ds ss room)
+pub write-refuses : (strip : Bool) (t : ℕ) (ds ss : List ℕ) (room : ℕ) → judged (writeList strip t ds ss room) ≡ firstFault (writeFaults strip t ds ss room)
 unfolding writeList
-write-refuses t ds ss room =
+write-refuses strip t ds ss room =
     when-row (ltb maxPostings (max (length ds) (length ss))) 11 0 _
     ∙ after (row (ltb maxPostings (max (length ds) (length ss))) 11 0) (when-row (not (eqb (length ds) (length ss))) 10 (min (length ds) (length ss)) _
     ∙ after (row (not (eqb (length ds) (length ss))) 10 (min (length ds) (length ss))) (when-row (eqb (length ds) 0) 10 0 _
     ∙ after (row (eqb (length ds) 0) 10 0) (when-row (ltb (faultAt 0 (postings ds ss)) (length ds)) 10 (faultAt 0 (postings ds ss)) _
-    ∙ after (row (ltb (faultAt 0 (postings ds ss)) (length ds)) 10 (faultAt 0 (postings ds ss))) (when-row (ltb room (length (listBytes t (postings ds ss)))) 9 0 (done (listBytes t (postings ds ss)))))))
+    ∙ after (row (ltb (faultAt 0 (postings ds ss)) (length ds)) 10 (faultAt 0 (postings ds ss))) (when-row (ltb room (length (listBytes strip t (postings ds ss)))) 9 0 (done (listBytes strip t (postings ds ss)))))))
 
 -- ---- edits
 
@@ -246,6 +247,29 @@ edit-refuses e s room = unless-row (inRange e) 10 0 _ ∙ after (row (not (inRan
         row (not (there e (pieces s (listsOf o)))) 12 0 ∷ row (not (within (changed e (pieces s (listsOf o))))) 11 0 ∷ row (not (leb (length (joined (changed e (pieces s (listsOf o))))) room)) 9 0 ∷ [])))
     go (refused n at) = refl
     go (done ls) = by-body ls (badLists ls) ∙ after (bodyFault (badLists ls)) (settled-rows e (pieces s ls) room)
+
+-- ---- the converter
+
+turning-rows : (t : ℕ) (s : List ℕ) (ls : List Listing) (room : ℕ) → judged (turning t s ls room)
+    ≡ firstFault (row (not (listed t ls)) 12 0 ∷ row (not (leb (length (joined (turnedPieces t s ls))) room)) 9 0 ∷ [])
+unfolding turning
+turning-rows t s ls room =
+    unless-row (listed t ls) 12 0 _
+    ∙ after (row (not (listed t ls)) 12 0) (unless-row (leb (length (joined (turnedPieces t s ls))) room) 9 0 (done (joined (turnedPieces t s ls))))
+
+pub convert-refuses : (t : ℕ) (s : List ℕ) (room : ℕ) → judged (converted t s room) ≡ firstFault (convertFaults t s room)
+unfolding converted checked
+convert-refuses t s room = go (walk s)
+  where
+    by-body : (ls : List Listing) (r : BadRead) → judged (andThen (verdict ls r) (λ ms. turning t s ms room)) ≡ andThen (bodyFault r) (λ ok. judged (turning t s ls room))
+    by-body ls (BadAt at) = refl
+    by-body ls NoBad = refl
+
+    go : (o : Outcome (List Listing)) → judged (andThen (andThen o (λ ls. verdict ls (badLists ls))) (λ ls. turning t s ls room))
+        ≡ andThen (judged o) (λ ok. andThen (bodyFault (badLists (listsOf o))) (λ ok. firstFault (
+        row (not (listed t (listsOf o))) 12 0 ∷ row (not (leb (length (joined (turnedPieces t s (listsOf o)))) room)) 9 0 ∷ [])))
+    go (refused n at) = refl
+    go (done ls) = by-body ls (badLists ls) ∙ after (bodyFault (badLists ls)) (turning-rows t s ls room)
 
 -- ---- the two rankers
 

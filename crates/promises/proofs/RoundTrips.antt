@@ -10,7 +10,7 @@ use Rattle.model.specs.Outcome.{refused, done}
 use Rattle.model.specs.Post.{Post, docs, scores}
 use Rattle.model.specs.Runs.{All}
 use Rattle.model.proofs.Lists.{split, Bytes, bytes-drop}
-use Rattle.shelf.specs.Walk.{Block, Listing, postsOf, list, lists}
+use Rattle.shelf.specs.Walk.{Block, Listing, postsOf, stripOf, list, lists}
 use Rattle.shelf.specs.Check.{badBody, badLists, checked}
 use Rattle.lookup.specs.Find.{findOf, found}
 use Rattle.shelf.specs.declared.check.BadRead.the-variants.{NoBad}
@@ -54,10 +54,10 @@ module _ (s : List ℕ) (ls : List Listing) (h : Bytes s) (e : checked s ≡ don
   given d w ps r = read-posts (l .blocks) d w ps (stood .0 .right) (rw (sound-walk s ls e .0, f) at r)
 
   pub read-and-written : Full (l .blocks) → (d w : ℕ) (ps : List Post) → readList t s d w ≡ done ps → (room : ℕ) → length (bytesOf s l) ≤ room
-      → writeList t (docs ps) (scores ps) room ≡ done (bytesOf s l)
+      → writeList (stripOf (l .blocks)) t (docs ps) (scores ps) room ≡ done (bytesOf s l)
   read-and-written u d w ps r room fits =
       let o = stood .0 in
       let at = l .place .at in
       let n : length (bytesOf s l) ≡ l .place .next - at = length-take-le (l .place .next - at) (drop at s) (omega (arith, length-drop at s, o .within)) in
-      subst (λ (qs : List Post). writeList t (docs qs) (scores qs) room ≡ done (bytesOf s l)) (given d w ps r)
+      subst (λ (qs : List Post). writeList (stripOf (l .blocks)) t (docs qs) (scores qs) room ≡ done (bytesOf s l)) (given d w ps r)
       (rw (stood .1) at (written-back (o .floor) at (drop at s) l (bytes-drop at s h) (o .reads) (o .right) u room (omega arith)))

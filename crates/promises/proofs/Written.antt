@@ -1,6 +1,7 @@
 -- One writing is bytes: each number is below 256. Assumes nothing.
 use Prim.Native.Nat.{ℕ, zero, suc, _-_, _/_, _%_, _<_}
 use native.Mathlib.Omega.{arith}
+use mathlib.Core.Bool.{Bool, true, false}
 use mathlib.Core.List.{List, [], _∷_, _++_}
 use borrow.Author.Tests.{ltb-true}
 use lib.Dec.{ltb}
@@ -12,7 +13,7 @@ use Rattle.wire.specs.Number.{be}
 use Rattle.wire.specs.Field.{fieldBytes}
 use Rattle.wire.specs.Gap.{gapIn, gapBytes}
 use Rattle.block.specs.Summary.{sumBytes, summaryOf}
-use Rattle.block.specs.Body.{laterBytes, bodyBytes}
+use Rattle.block.specs.Body.{tagOf, inTurn, inStrip, laterBytes, frontBytes, backBytes, bodyBytes}
 use Rattle.block.specs.declared.summary.Summary.{Summary}
 use Rattle.list.specs.Write.{packed, sumsBytes, bodiesBytes, blocksBytes, listBytes, Word, writing}
 
@@ -44,17 +45,35 @@ field-small : (t : ℕ) (v : List ℕ) → t < 256 → Small v → Small (fieldB
 unfolding fieldBytes
 field-small t v l a = join (t ∷ be 2 (length v)) v (l, be-small 2 (length v)) a
 
-later-small : (d : ℕ) (ps : List Post) → Small (laterBytes d ps)
-unfolding laterBytes
-later-small d [] = tt
-later-small d (p ∷ ps) =
-    join (gapBytes (p .doc - d - 1)) (be 2 (p .score) ++ laterBytes (p .doc) ps) (gap-small 5 (p .doc - d - 1))
-    (join (be 2 (p .score)) (laterBytes (p .doc) ps) (be-small 2 (p .score)) (later-small (p .doc) ps))
+-- a score of either layout, where it stands
+turn-small : (strip : Bool) (w : ℕ) → Small (inTurn strip w)
+turn-small true w = tt
+turn-small false w = be-small 2 w
 
-body-small : (ps : List Post) → Small (bodyBytes ps)
+strip-small : (strip : Bool) (w : ℕ) → Small (inStrip strip w)
+strip-small true w = be-small 2 w
+strip-small false w = tt
+
+later-small : (strip : Bool) (d : ℕ) (ps : List Post) → Small (laterBytes strip d ps)
+unfolding laterBytes
+later-small strip d [] = tt
+later-small strip d (p ∷ ps) =
+    join (gapBytes (p .doc - d - 1)) (inTurn strip (p .score) ++ laterBytes strip (p .doc) ps) (gap-small 5 (p .doc - d - 1))
+    (join (inTurn strip (p .score)) (laterBytes strip (p .doc) ps) (turn-small strip (p .score)) (later-small strip (p .doc) ps))
+
+front-small : (strip : Bool) (ps : List Post) → Small (frontBytes strip ps)
+unfolding frontBytes
+front-small strip [] = tt
+front-small strip (p ∷ ps) = join (inTurn strip (p .score)) (laterBytes strip (p .doc) ps) (turn-small strip (p .score)) (later-small strip (p .doc) ps)
+
+back-small : (strip : Bool) (ps : List Post) → Small (backBytes strip ps)
+unfolding backBytes
+back-small strip [] = tt
+back-small strip (p ∷ ps) = join (inStrip strip (p .score)) (backBytes strip ps) (strip-small strip (p .score)) (back-small strip ps)
+
+body-small : (strip : Bool) (ps : List Post) → Small (bodyBytes strip ps)
 unfolding bodyBytes
-body-small [] = tt
-body-small (p ∷ ps) = join (be 2 (p .score)) (laterBytes (p .doc) ps) (be-small 2 (p .score)) (later-small (p .doc) ps)
+body-small strip ps = join (frontBytes strip ps) (backBytes strip ps) (front-small strip ps) (back-small strip ps)
 
 sum-small : (m : Summary) → Small (sumBytes m)
 unfolding sumBytes
@@ -63,28 +82,33 @@ sum-small m =
     (join (be 3 (m .least)) _ (be-small 3 (m .least))
     (join (be 3 (m .greatest)) _ (be-small 3 (m .greatest)) (join (be 2 (m .top)) (be 1 (m .count)) (be-small 2 (m .top)) (be-small 1 (m .count)))))
 
-sums-small : (bs : List (List Post)) → Small (sumsBytes bs)
+sums-small : (strip : Bool) (bs : List (List Post)) → Small (sumsBytes strip bs)
 unfolding sumsBytes
-sums-small [] = tt
-sums-small (b ∷ bs) = join (sumBytes (summaryOf b)) (sumsBytes bs) (sum-small (summaryOf b)) (sums-small bs)
+sums-small strip [] = tt
+sums-small strip (b ∷ bs) = join (sumBytes (summaryOf strip b)) (sumsBytes strip bs) (sum-small (summaryOf strip b)) (sums-small strip bs)
 
-bodies-small : (bs : List (List Post)) → Small (bodiesBytes bs)
+tag-small : (strip : Bool) → tagOf strip < 256
+tag-small true = omega arith
+tag-small false = omega arith
+
+bodies-small : (strip : Bool) (bs : List (List Post)) → Small (bodiesBytes strip bs)
 unfolding bodiesBytes
-bodies-small [] = tt
-bodies-small (b ∷ bs) = join (fieldBytes 3 (bodyBytes b)) (bodiesBytes bs) (field-small 3 (bodyBytes b) (omega arith) (body-small b)) (bodies-small bs)
+bodies-small strip [] = tt
+bodies-small strip (b ∷ bs) =
+    join (fieldBytes (tagOf strip) (bodyBytes strip b)) (bodiesBytes strip bs) (field-small (tagOf strip) (bodyBytes strip b) (tag-small strip) (body-small strip b)) (bodies-small strip bs)
 
-list-small : (t : ℕ) (ps : List Post) → Small (listBytes t ps)
+list-small : (strip : Bool) (t : ℕ) (ps : List Post) → Small (listBytes strip t ps)
 unfolding listBytes blocksBytes
-list-small t ps =
+list-small strip t ps =
     let bs = packed 64 ps in
-    join (fieldBytes 1 (be 4 t ++ be 1 (length bs))) (sumsBytes bs ++ bodiesBytes bs)
+    join (fieldBytes 1 (be 4 t ++ be 1 (length bs))) (sumsBytes strip bs ++ bodiesBytes strip bs)
     (field-small 1 (be 4 t ++ be 1 (length bs)) (omega arith) (join (be 4 t) (be 1 (length bs)) (be-small 4 t) (be-small 1 (length bs))))
-    (join (sumsBytes bs) (bodiesBytes bs) (sums-small bs) (bodies-small bs))
+    (join (sumsBytes strip bs) (bodiesBytes strip bs) (sums-small strip bs) (bodies-small strip bs))
 
 writing-small : (ws : List Word) → Small (writing ws)
 unfolding writing
 writing-small [] = tt
-writing-small (w ∷ ws) = join (listBytes (w .term) (w .posts)) (writing ws) (list-small (w .term) (w .posts)) (writing-small ws)
+writing-small (w ∷ ws) = join (listBytes (w .strip) (w .term) (w .posts)) (writing ws) (list-small (w .strip) (w .term) (w .posts)) (writing-small ws)
 
 pub writing-bytes : (ws : List Word) → Bytes (writing ws)
 writing-bytes ws = small-bytes (writing ws) (writing-small ws)

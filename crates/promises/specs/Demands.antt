@@ -1,8 +1,8 @@
 -- The three demands, each sentence with what is stated for it. All is said of the definitions to which the contracts of the entry points are equal for
--- every input: `asked`, `checked`, `found`, `readList`, `writeList`, `edited`, `rankAll` and `searched`. Assumes nothing.
+-- every input: `asked`, `checked`, `found`, `readList`, `writeList`, `edited`, `converted`, `rankAll` and `searched`. Assumes nothing.
 use Prim.Native.Nat.{ℕ, _^_, _≤_, _<_}
 use mathlib.Core.Path.{_≡_}
-use mathlib.Core.Bool.{true}
+use mathlib.Core.Bool.{Bool, true}
 use mathlib.Core.Logic.{_↔_}
 use mathlib.Core.List.{List, [], map}
 use lib.ListN.{length}
@@ -10,7 +10,7 @@ use Rattle.model.specs.Outcome.{refused, done}
 use Rattle.model.specs.Post.{Post, docs, scores, postings}
 use Rattle.model.specs.Runs.{All, has}
 use Rattle.model.proofs.Lists.{Bytes}
-use Rattle.shelf.specs.Walk.{Listing}
+use Rattle.shelf.specs.Walk.{Listing, stripOf}
 use Rattle.shelf.specs.Check.{checked, judged}
 use Rattle.lookup.specs.Find.{findOf, found, shownOf}
 use Rattle.lookup.specs.Show.{summaryShown, bodyShown, summaryOfBlock, partOfBlock}
@@ -19,6 +19,7 @@ use Rattle.list.specs.Read.{readList, docidsOf, scoresOf}
 use Rattle.list.specs.Write.{Full, writeList}
 use Rattle.change.specs.Edits.{Edit, Set, stored}
 use Rattle.change.specs.Bytes.{edited}
+use Rattle.convert.specs.Convert.{converted}
 use Rattle.edit.specs.History.{Try, shelfAfter, accepted, addUp, History}
 use Rattle.query.specs.Query.{Asked, Question, asked}
 use Rattle.rank.specs.Rank.{Hit, ranking}
@@ -28,11 +29,11 @@ use Rattle.exhaustive.proofs.Sound.{termOn}
 use Rattle.pruned.specs.Pruned.{searched}
 use Rattle.lines.specs.Text.{refusalLine}
 use Rattle.report.specs.Report.{reported}
-use Rattle.promises.specs.Refusals.{Fault, firstFault, IsFirst, queryFaults, checkFaults, showFaults, blockShown, blockFaults, readFaults, writeFaults, editFaults, rankFaults, searchFaults}
+use Rattle.promises.specs.Refusals.{Fault, firstFault, IsFirst, queryFaults, checkFaults, showFaults, blockShown, blockFaults, readFaults, writeFaults, editFaults, convertFaults, rankFaults, searchFaults}
 use Rattle.promises.specs.Served.{listsFor, matchesFor, Asks, Room, bytesOf}
 use Rattle.promises.specs.Ranked.{In, KBest}
 use Rattle.promises.specs.Book.{Booked, CutBy, Stopping}
-use Rattle.promises.specs.Edits.{leftBy, matchesIn, AllTermed, Accepted, Changes, Shown}
+use Rattle.promises.specs.Edits.{leftBy, matchesIn, AllNamed, Accepted, Changes, Converting, Converts, Shown}
 
 -- "1. Every entry point takes any shelf, query, posting or lent buffer, comes to an end,": each definition is total, and each contract has no premise.
 pub record Demand1 : Type 0 where
@@ -44,8 +45,9 @@ pub record Demand1 : Type 0 where
   pub shown : (t : ℕ) (s : List ℕ) (j : ℕ)
       → (summaryShown s (shownOf (found t s)) j ≡ summaryOfBlock (blockShown t s j)) × (bodyShown s (shownOf (found t s)) j ≡ partOfBlock (blockShown t s j))
   pub read : (t : ℕ) (s : List ℕ) (d w : ℕ) → judged (readList t s d w) ≡ firstFault (readFaults t s d w)
-  pub write : (t : ℕ) (ds ss : List ℕ) (room : ℕ) → judged (writeList t ds ss room) ≡ firstFault (writeFaults t ds ss room)
+  pub write : (strip : Bool) (t : ℕ) (ds ss : List ℕ) (room : ℕ) → judged (writeList strip t ds ss room) ≡ firstFault (writeFaults strip t ds ss room)
   pub edit : (e : Edit) (s : List ℕ) (room : ℕ) → judged (edited e s room) ≡ firstFault (editFaults e s room)
+  pub convert : (t : ℕ) (s : List ℕ) (room : ℕ) → judged (converted t s room) ≡ firstFault (convertFaults t s room)
   pub rank : (q s : List ℕ) (rows : ℕ) → judged (rankAll q s rows) ≡ firstFault (rankFaults q s rows)
   pub search : (q s : List ℕ) (rows : ℕ) (fs cs ms : List ℕ) → judged (searched q s rows fs cs ms .outcome) ≡ firstFault (searchFaults q s rows (length fs) (length cs) (length ms))
   -- (the program) "13: program input over 65,536 bytes, before all else"
@@ -56,8 +58,9 @@ pub record Demand1 : Type 0 where
   -- "A refusal changes no output,"
   pub read-keeps : (t : ℕ) (s ds ss : List ℕ) (n at : ℕ) → readList t s (length ds) (length ss) ≡ refused n at
       → (after (docidsOf (readList t s (length ds) (length ss))) ds ≡ ds) × (after (scoresOf (readList t s (length ds) (length ss))) ss ≡ ss)
-  pub write-keeps : (t : ℕ) (ds ss out : List ℕ) (n at : ℕ) → writeList t ds ss (length out) ≡ refused n at → after (writeList t ds ss (length out)) out ≡ out
+  pub write-keeps : (strip : Bool) (t : ℕ) (ds ss out : List ℕ) (n at : ℕ) → writeList strip t ds ss (length out) ≡ refused n at → after (writeList strip t ds ss (length out)) out ≡ out
   pub edit-keeps : (e : Edit) (s out : List ℕ) (n at : ℕ) → edited e s (length out) ≡ refused n at → after (edited e s (length out)) out ≡ out
+  pub convert-keeps : (t : ℕ) (s out : List ℕ) (n at : ℕ) → converted t s (length out) ≡ refused n at → after (converted t s (length out)) out ≡ out
   pub search-keeps : (q s : List ℕ) (rows : ℕ) (fs cs ms : List ℕ) (n at : ℕ) → searched q s rows fs cs ms .outcome ≡ refused n at → (n ≡ 8 → ⊥)
       → searched q s rows fs cs ms ≡ record { outcome = refused n at; intervals = 0; opened = 0; blocks = 0; firsts = fs; ceilings = cs; marks = ms }
   -- "except a bad block met during a search, where the interval book shows how far the search came."
@@ -77,30 +80,32 @@ pub record Demand2 : Type 0 where
   pub scoring : (x : Question) (ls : List Listing) → All (λ (h : Hit). h .score ≡ scoreOf (map (termOn ls) (x .terms)) (h .doc)) (matchesFor x ls)
   -- "higher first, lower sheet number first on a tie, the best k or all there are."
   pub best : (k : ℕ) (hs : List Hit) → KBest k hs (ranking k hs)
-  -- "Postings written and read back are the same postings;"
-  pub reads-back : (t : ℕ) (ds ss : List ℕ) (room : ℕ) (v : List ℕ) (d w : ℕ) → t < 2 ^ 32 → writeList t ds ss room ≡ done v → length ds ≤ d → length ds ≤ w
+  -- "Postings written and read back are the same postings;" in either layout
+  pub reads-back : (strip : Bool) (t : ℕ) (ds ss : List ℕ) (room : ℕ) (v : List ℕ) (d w : ℕ) → t < 2 ^ 32 → writeList strip t ds ss room ≡ done v → length ds ≤ d → length ds ≤ w
       → readList t v d w ≡ done (postings ds ss)
-  -- "a sound list with every block but the last full, read and written, is the same bytes."
+  -- "a sound list with every block but the last full, read and written, is the same bytes.": the writer is told the list's layout
   pub writes-back : (s : List ℕ) (ls : List Listing) → Bytes s → checked s ≡ done ls → (t : ℕ) (l : Listing) → findOf t ls ≡ done l → Full (l .blocks)
-      → (d w : ℕ) (ps : List Post) → readList t s d w ≡ done ps → (room : ℕ) → length (bytesOf s l) ≤ room → writeList t (docs ps) (scores ps) room ≡ done (bytesOf s l)
+      → (d w : ℕ) (ps : List Post) → readList t s d w ≡ done ps → (room : ℕ) → length (bytesOf s l) ≤ room → writeList (stripOf (l .blocks)) t (docs ps) (scores ps) room ≡ done (bytesOf s l)
 
 pub record Demand3 : Type 0 where
   -- "3. Start from an empty shelf and make any sequence of edits, each accepted result feeding the next, refused ones changing nothing. The shelf is then
   -- sound, holds exactly the postings the accepted edits add up to, and has the bytes that one writing of them gives."
-  pub history : (es : List Try) → AllTermed es → History (shelfAfter es []) (addUp (accepted es []) [])
-  -- each posting is what the last accepted edit that touches it leaves
+  pub history : (es : List Try) → AllNamed es → History (shelfAfter es []) (addUp (accepted es []) [])
+  -- ("conversions may stand in demand 3's history, changing no posting") each posting is what the last accepted edit that touches it leaves
   pub adds-up : (es : List Try) (t d : ℕ) → stored t d (addUp (accepted es []) []) ≡ leftBy t d 0 (accepted es [])
   -- "For any accepted query on it with room enough, every sheet number is in exactly one interval, and an interval is skipped exactly when .."
-  pub books : (es : List Try) → AllTermed es → (ls : List Listing) → checked (shelfAfter es []) ≡ done ls → (q : List ℕ) (x : Question) → Bytes q → asked q ≡ done x
+  pub books : (es : List Try) → AllNamed es → (ls : List Listing) → checked (shelfAfter es []) ≡ done ls → (q : List ℕ) (x : Question) → Bytes q → asked q ≡ done x
       → (rows : ℕ) (fs cs ms : List ℕ) → Room x ls rows fs cs ms → Booked (x .k) (matchesIn x (addUp (accepted es []) [])) (searched q (shelfAfter es []) rows fs cs ms)
   -- with demand 2, its answer is the ranking of the postings that the accepted edits add up to
-  pub answers : (es : List Try) → AllTermed es → (ls : List Listing) → checked (shelfAfter es []) ≡ done ls → (q : List ℕ) (x : Question) → Bytes q → asked q ≡ done x
+  pub answers : (es : List Try) → AllNamed es → (ls : List Listing) → checked (shelfAfter es []) ≡ done ls → (q : List ℕ) (x : Question) → Bytes q → asked q ≡ done x
       → (rows : ℕ) (fs cs ms : List ℕ) → Room x ls rows fs cs ms → searched q (shelfAfter es []) rows fs cs ms .outcome ≡ done (ranking (x .k) (matchesIn x (addUp (accepted es []) [])))
   -- the same on every sound shelf, with what the paper says of intervals, ceilings and counts
   pub books-any : (q s : List ℕ) (x : Question) (ls : List Listing) → Asks q s x ls → (rows : ℕ) (fs cs ms : List ℕ) → Room x ls rows fs cs ms
       → Booked (x .k) (matchesFor x ls) (searched q s rows fs cs ms) × CutBy (listsFor x ls) (scoreOf (map (termOn ls) (x .terms))) (searched q s rows fs cs ms)
   -- (the paper) "On any other sound shelf an accepted edit likewise leaves a sound shelf with the old postings and its own change."
   pub changes : (e : Edit) (s : List ℕ) (old : List Listing) (v : List ℕ) → Accepted e s old v → Changes e s old v
+  -- a conversion leaves a sound shelf that holds the same, with the list in the other layout and every other list byte for byte
+  pub converts : (t : ℕ) (s : List ℕ) (old : List Listing) (v : List ℕ) → Converting t s old v → Converts t s old v
   -- the incident: "A regulator erratum was raised to the top score while its block kept the old greatest score. The block stayed shut."
   pub shows : (t d w : ℕ) (s : List ℕ) (old : List Listing) (v : List ℕ) → Accepted (Set t d w) s old v → (q : List ℕ) (x : Question) (ls : List Listing) → Asks q v x ls
       → (y : Asked) → In y (x .terms) → y .term ≡ t → (rows : ℕ) (fs cs ms : List ℕ) → Room x ls rows fs cs ms

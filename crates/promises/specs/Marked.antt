@@ -11,7 +11,7 @@ use Rattle.model.specs.Post.{post}
 use Rattle.shelf.specs.Walk.{Block, Listing}
 use Rattle.shelf.specs.Check.{judged, checked}
 use Rattle.change.specs.Edits.{Set}
-use Rattle.edit.specs.History.{Try, shelfAfter}
+use Rattle.edit.specs.History.{Change, Try, shelfAfter}
 use Rattle.rank.specs.Rank.{Hit}
 use Rattle.pruned.specs.Pruned.{Answer, searched}
 use Rattle.lines.specs.Text.{codes}
@@ -68,7 +68,7 @@ search q s = searched q s 100 lent lent lent
 
 -- a set that is tried, with room for any shelf
 abbrev set : (t d w : ℕ) → Try
-set t d w = record { edit = Set t d w; room = maxShelf }
+set t d w = record { act = Change (Set t d w); room = maxShelf }
 
 -- the greatest scores that the blocks of a sound shelf store
 abbrev topsIn : List Block → List ℕ

@@ -22,6 +22,7 @@ use Rattle.shelf.specs.declared.check.BadRead.the-variants.{BadAt, NoBad}
 use Rattle.list.specs.Write.{faultAt, listBytes}
 use Rattle.change.specs.Edits.{Edit}
 use Rattle.change.specs.Bytes.{pieces, joined, changed, inRange, there, within}
+use Rattle.convert.specs.Convert.{listed, turnedPieces}
 use Rattle.query.specs.Query.{Asked, termAt, termsIn, fieldCount, allRight, weighted, unrepeated}
 use Rattle.query.specs.declared.fields.FieldsRead.{FieldsRead}
 use Rattle.query.specs.declared.fields.FieldsRead.the-variants.{Terms, Wrong}
@@ -109,11 +110,6 @@ abbrev pub bodyFault : BadRead → Fault
 bodyFault NoBad = done tt
 bodyFault (BadAt at) = refused 8 at
 
--- 12: "list .. not there"
-abbrev pub listed : ℕ → List Listing → Bool
-listed t [] = false
-listed t (l ∷ ls) = eqb (l .place .term) t || listed t ls
-
 -- ---- "Checker 6/7, 8."
 abbrev pub checkFaults : List ℕ → List Fault
 checkFaults s = walkFault s ∷ bodyFault (badLists (listsOn s)) ∷ []
@@ -139,13 +135,13 @@ readFaults t s d w =
     ∷ []
 
 -- ---- "Writing 11 (the longer run), 10 (unequal runs first), 9."
-abbrev pub writeFaults : (t : ℕ) (ds ss : List ℕ) (room : ℕ) → List Fault
-writeFaults t ds ss room =
+abbrev pub writeFaults : (strip : Bool) (t : ℕ) (ds ss : List ℕ) (room : ℕ) → List Fault
+writeFaults strip t ds ss room =
     row (ltb maxPostings (max (length ds) (length ss))) 11 0
     ∷ row (not (eqb (length ds) (length ss))) 10 (min (length ds) (length ss))
     ∷ row (eqb (length ds) 0) 10 0
     ∷ row (ltb (faultAt 0 (postings ds ss)) (length ds)) 10 (faultAt 0 (postings ds ss))
-    ∷ row (ltb room (length (listBytes t (postings ds ss)))) 9 0
+    ∷ row (ltb room (length (listBytes strip t (postings ds ss)))) 9 0
     ∷ []
 
 -- ---- "Edits 10, 6/7, 8 (whole shelf), 12, 11, 9."
@@ -157,6 +153,15 @@ editFaults e s room =
     ∷ row (not (there e (pieces s (listsOn s)))) 12 0
     ∷ row (not (within (changed e (pieces s (listsOn s))))) 11 0
     ∷ row (not (leb (length (joined (changed e (pieces s (listsOn s))))) room)) 9 0
+    ∷ []
+
+-- ---- "converter 6/7, 8 (whole shelf), 12, 9."
+abbrev pub convertFaults : (t : ℕ) → List ℕ → (room : ℕ) → List Fault
+convertFaults t s room =
+    walkFault s
+    ∷ bodyFault (badLists (listsOn s))
+    ∷ row (not (listed t (listsOn s))) 12 0
+    ∷ row (not (leb (length (joined (turnedPieces t s (listsOn s)))) room)) 9 0
     ∷ []
 
 -- ---- "pruned search 1, 2, 3, 4, 5, then 6/7, 9, 8; exhaustive the same, checking all bodies of the query's lists"

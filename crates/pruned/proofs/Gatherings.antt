@@ -1,6 +1,7 @@
 -- The blocks that were gathered from lists that were walked: the search over them asks no more, and its lists are those on the shelf. Assumes nothing.
 use Prim.Native.Nat.{ℕ, zero, suc, _+_, _-_, _≤_, _<_}
 use mathlib.Core.Path.{_≡_, refl, sym, ap, _∙_}
+use mathlib.Core.Bool.{false}
 use mathlib.Core.List.{List, [], _∷_, _++_, map, append-nil}
 use native.Mathlib.Omega.{arith}
 use lib.Dec.{ltb}
@@ -9,6 +10,7 @@ use borrow.Author.Tests.{ltb-true, ltb-false}
 use Rattle.model.specs.Limits.{maxDocid, maxTerms, perList}
 use Rattle.model.specs.Runs.{All, Holds}
 use Rattle.model.proofs.Lists.{split, All-at, All-map, All-image, Bytes}
+use Rattle.block.specs.Body.{isStrip}
 use Rattle.shelf.specs.Walk as shelf
 use Rattle.shelf.specs.Walk.{blocksAt}
 use Rattle.shelf.specs.Blocks.{blocksLeft}
@@ -31,7 +33,7 @@ use Rattle.pruned.proofs.Rows.{Bodied, Fit, left-is, list-fit, list-ris
 -- ---- one block out of the runs
 
 abbrev noBlock : shelf.Block
-noBlock = record { at = 0; sum = record { least = 0; greatest = 0; top = 0; count = 0 }; bodyAt = 0; body = [] }
+noBlock = record { at = 0; sum = record { least = 0; greatest = 0; top = 0; count = 0; strip = false }; bodyAt = 0; body = [] }
 
 held-at : (f : shelf.Block → ℕ) (bs : List shelf.Block) (zs : List ℕ) (i : ℕ) → i < length bs → getD (map f bs ++ zs) i 0 ≡ f (getD bs i noBlock)
 held-at f [] zs i l = absurd (omega arith)
@@ -39,8 +41,8 @@ held-at f (b ∷ bs) zs zero l = refl
 held-at f (b ∷ bs) zs (suc i) l = held-at f bs zs i (omega arith)
 
 row-block : (s : List ℕ) (b : shelf.Block) (lo hi tall n at : ℕ) → lo ≡ least b → hi ≡ greatest b → tall ≡ top b → n ≡ count b → at ≡ tagAt b → Bodied s b
-    → _≡_ {A = Block} (record { least = lo; greatest = hi; top = tall; body = bodyIn s (record { least = lo; greatest = hi; top = tall; count = n }) at }) (blockOf b)
-row-block s b lo hi tall n at l g t c a h = rw (l, g, t, c, a, h .body)
+    → _≡_ {A = Block} (record { least = lo; greatest = hi; top = tall; body = bodyIn s (record { least = lo; greatest = hi; top = tall; count = n; strip = isStrip (drop at s) }) at }) (blockOf b)
+row-block s b lo hi tall n at l g t c a h = rw (l, g, t, c, a, h .body, ← h .layout)
 
 -- ---- the lists that were found, by their numbers
 

@@ -1,6 +1,7 @@
 -- The blocks of a list that was walked, as they stand on the shelf: each may be loaded, and they rise. Assumes nothing.
 use Prim.Native.Nat.{ℕ, zero, suc, _+_, _≤_}
 use mathlib.Core.Path.{_≡_, refl}
+use mathlib.Core.Bool.{Bool}
 use mathlib.Core.List.{List, [], _∷_, map}
 use native.Mathlib.Omega.{arith}
 use native.Mathlib.Numerals.{sub-one}
@@ -14,7 +15,9 @@ use Rattle.model.specs.Runs.{All}
 use Rattle.model.proofs.Lists.{split, All-both, Bytes}
 use Rattle.wire.specs.Field.{fieldLen, fieldValue}
 use Rattle.wire.proofs.Fields.{whole-size}
-use Rattle.shelf.specs.Walk.{Block, bodies, blocksOf, blocksAt}
+use Rattle.block.specs.Summary.{sumOf}
+use Rattle.block.specs.Body.{isStrip, tagOf}
+use Rattle.shelf.specs.Walk.{Block, bodiesOf, blocksOf, blocksAt}
 use Rattle.shelf.specs.Blocks.{blocksLeft, Rests}
 use Rattle.shelf.specs.declared.blocks.Reading.{Reading}
 use Rattle.shelf.proofs.Walks.{bodies-step, bodies-whole}
@@ -23,24 +26,25 @@ use Rattle.exhaustive.specs.Lists.{blockOf}
 use Rattle.exhaustive.specs.Merge.{Chain, readingAt, Walked}
 use Rattle.exhaustive.proofs.Chains.{Facts, sum-facts, left-low}
 
--- ---- a block's body is the field at its tag, to its last byte
+-- ---- a block's body is the field at its tag, to its last byte, in the layout that the tag says
 
 pub record Bodied (s : List ℕ) (b : Block) : Type 0 where
   pub body : b .body ≡ fieldValue (drop (b .bodyAt) s)
   pub whole : b .bodyAt + (3 + fieldLen (drop (b .bodyAt) s)) ≤ length s
+  pub layout : b .sum .strip ≡ isStrip (drop (b .bodyAt) s)
 
-blocks-bodied : (n a b end : ℕ) (m s : List ℕ) → bodies n b (drop b s) ≡ done end → All (Bodied s) (blocksOf n a m b (drop b s))
-unfolding blocksOf
-blocks-bodied zero a b end m s h = tt
-blocks-bodied (suc n) a b end m s h =
+blocks-bodied : (strip : Bool) (n a b end : ℕ) (m s : List ℕ) → bodiesOf strip n b (drop b s) ≡ done end → All (Bodied s) (blocksOf n a m b (drop b s))
+unfolding blocksOf sumOf
+blocks-bodied strip zero a b end m s h = tt
+blocks-bodied strip (suc n) a b end m s h =
     let k = 3 + fieldLen (drop b s) in
-    let w = bodies-whole (suc n) b s end (omega arith) h in
-    let rest : bodies n (b + k) (drop (b + k) s) ≡ done end = rw (bodies-step (suc n) b s (omega arith) w, sub-one) at h in
-    rw (drop-drop k b s) (record { body = refl; whole = omega (arith, whole-size 3 (drop b s) w, length-drop b s) }, blocks-bodied n (a + 12) (b + k) end (drop 12 m) s rest)
+    let w = bodies-whole strip (suc n) b s end (omega arith) h in
+    let rest : bodiesOf strip n (b + k) (drop (b + k) s) ≡ done end = rw (bodies-step strip (suc n) b s (omega arith) w, sub-one) at h in
+    rw (drop-drop k b s) (record { body = refl; whole = omega (arith, whole-size (tagOf strip) (drop b s) w, length-drop b s); layout = refl }, blocks-bodied strip n (a + 12) (b + k) end (drop 12 m) s rest)
 
 left-bodied : (s : List ℕ) (r : Reading) → Rests s r → All (Bodied s) (blocksLeft s r)
 unfolding blocksLeft
-left-bodied s r q = blocks-bodied (r .left) (r .sum) (r .body) (q .end) (drop (r .sum) s) s (q .bodied)
+left-bodied s r q = blocks-bodied (q .strip) (r .left) (r .sum) (r .body) (q .end) (drop (r .sum) s) s (q .bodied)
 
 -- ---- right summaries
 

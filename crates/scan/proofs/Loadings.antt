@@ -25,7 +25,7 @@ use Rattle.scan.specs.Load.{Loadable, headOf, Loads}
 use Rattle.scan.specs.declared.head.Head.{Head}
 use Rattle.scan.specs.declared.load.Loaded.{Loaded}
 use Rattle.scan.specs.declared.load.Loaded.the-variants.{Stands, Wrong}
-use Rattle.scan.proofs.Bodies.{run-few}
+use Rattle.block.proofs.Runs.{run-few}
 use Rattle.scan.proofs.Parts.{slice-stored, slice-apart}
 use Rattle.scan.proofs.Terms.{between-cons, next-term, next-stays, next-own}
 

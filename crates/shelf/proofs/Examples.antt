@@ -8,8 +8,8 @@ use Rattle.wire.specs.Number.{num, be}
 use Rattle.wire.specs.Field.{fieldLen, whole, fieldValue, fieldBytes}
 use Rattle.wire.specs.Gap.{more, gap, score}
 use Rattle.block.specs.Summary.{isSum, sumOf, rightSum}
-use Rattle.block.specs.Body.{gapped, posting, posts, bodyPosts, rightBody}
-use Rattle.shelf.specs.Walk.{headTerm, headCount, rightHead, oneSum, sums, oneBody, bodies, blocksOf, list, lists, walk}
+use Rattle.block.specs.Body.{isStrip, edge, gapped, posting, posts, bodyPosts, rightBody}
+use Rattle.shelf.specs.Walk.{headTerm, headCount, rightHead, oneSum, sums, oneBody, bodiesOf, bodies, blocksOf, list, lists, walk}
 use Rattle.shelf.specs.Check.{checked, judged}
 
 -- ---- fields, right or wrong
@@ -22,6 +22,9 @@ summary a z w n = fieldBytes 2 (be 3 a ++ (be 3 z ++ (be 2 w ++ be 1 n)))
 
 abbrev body : List ℕ → List ℕ
 body v = fieldBytes 3 v
+
+abbrev strip : List ℕ → List ℕ
+strip v = fieldBytes 4 v
 
 -- a list of one posting, 25 bytes: docid 2 with score 5
 abbrev single : ℕ → List ℕ
@@ -81,6 +84,22 @@ corners =
     -- gap numbers 127 and 128
     ∷ is (header 7 1 ++ (summary 1 129 5 2 ++ body (0 ∷ 5 ∷ 127 ∷ 0 ∷ 3 ∷ []))) (done tt)
     ∷ is (header 7 1 ++ (summary 1 130 5 2 ++ body (0 ∷ 5 ∷ 128 ∷ 1 ∷ 0 ∷ 3 ∷ []))) (done tt)
+    -- strips: of one posting, of two; the paper's first list in strips
+    ∷ is (header 7 1 ++ (summary 2 2 5 1 ++ strip (0 ∷ 5 ∷ []))) (done tt)
+    ∷ is (header 7 1 ++ (summary 1 130 5 2 ++ strip (128 ∷ 1 ∷ 0 ∷ 5 ∷ 0 ∷ 3 ∷ []))) (done tt)
+    ∷ is (header 7 2 ++ (summary 2 4 5 2 ++ (summary 9 9 1 1 ++ (strip (1 ∷ 0 ∷ 5 ∷ 0 ∷ 3 ∷ []) ++ strip (0 ∷ 1 ∷ []))))) (done tt)
+    -- mixed tags in one list, in either order, and a body of neither; two lists may differ
+    ∷ is (header 7 2 ++ (summary 2 4 5 2 ++ (summary 9 9 1 1 ++ (strip (1 ∷ 0 ∷ 5 ∷ 0 ∷ 3 ∷ []) ++ body (0 ∷ 1 ∷ []))))) (refused 6 40)
+    ∷ is (header 7 2 ++ (summary 2 4 5 2 ++ (summary 9 9 1 1 ++ (body (0 ∷ 5 ∷ 1 ∷ 0 ∷ 3 ∷ []) ++ strip (0 ∷ 1 ∷ []))))) (refused 6 40)
+    ∷ is (header 7 1 ++ (summary 2 2 5 1 ++ fieldBytes 5 (0 ∷ 5 ∷ []))) (refused 6 20)
+    ∷ is (single 7 ++ (header 9 1 ++ (summary 2 2 5 1 ++ strip (0 ∷ 5 ∷ [])))) (done tt)
+    -- a strip read as the other layout, and the other way round; a byte more among the gap numbers, a byte less; a zero score; the gap number cut short by the first score
+    ∷ is (header 7 1 ++ (summary 2 4 5 2 ++ strip (0 ∷ 5 ∷ 1 ∷ 0 ∷ 3 ∷ []))) (refused 8 20)
+    ∷ is (header 7 1 ++ (summary 2 4 5 2 ++ body (1 ∷ 0 ∷ 5 ∷ 0 ∷ 3 ∷ []))) (refused 8 20)
+    ∷ is (header 7 1 ++ (summary 2 4 5 2 ++ strip (1 ∷ 0 ∷ 0 ∷ 5 ∷ 0 ∷ 3 ∷ []))) (refused 8 20)
+    ∷ is (header 7 1 ++ (summary 2 4 5 2 ++ strip (0 ∷ 5 ∷ 0 ∷ 3 ∷ []))) (refused 8 20)
+    ∷ is (header 7 1 ++ (summary 2 4 5 2 ++ strip (1 ∷ 0 ∷ 5 ∷ 0 ∷ 0 ∷ []))) (refused 8 20)
+    ∷ is (header 7 1 ++ (summary 2 131 5 2 ++ strip (129 ∷ 1 ∷ 5 ∷ 0 ∷ 3 ∷ []))) (refused 8 20)
     ∷ []
 
 abbrev answers : List Case → List (Outcome (Unit {0}))
@@ -90,7 +109,7 @@ abbrev checks : List Case → List (Outcome (Unit {0}))
 checks cs = map (λ (c : Case). judged (checked (c .bytes))) cs
 
 pub corner-cases : checks corners ≡ answers corners
-unfolding checked walk lists list headTerm headCount rightHead oneSum sums oneBody bodies blocksOf isSum sumOf rightSum whole fieldLen fieldValue fieldBytes num be gapped posting posts bodyPosts rightBody more gap score
+unfolding checked walk lists list headTerm headCount rightHead oneSum sums oneBody bodiesOf bodies blocksOf isStrip edge isSum sumOf rightSum whole fieldLen fieldValue fieldBytes num be gapped posting posts bodyPosts rightBody more gap score
 corner-cases = refl
 
 -- ---- the paper's shelf cut short at every byte: the tag of the field that is cut, the shelf's length where a field is due and no byte is left
@@ -106,5 +125,5 @@ times (suc n) r = r ∷ times n r
 pub cut-short : map (λ (k : ℕ). judged (checked (take k paperShelf))) (upTo 74)
     ≡ times 1 (done tt) ++ (times 7 (refused 6 0) ++ (times 12 (refused 6 8) ++ (times 12 (refused 6 20) ++ (times 8 (refused 6 32) ++ (times 5 (refused 6 40)
     ++ (times 1 (done tt) ++ (times 7 (refused 6 45) ++ (times 12 (refused 6 53) ++ (times 8 (refused 6 65) ++ times 1 (done tt))))))))))
-unfolding checked walk lists list headTerm headCount rightHead oneSum sums oneBody bodies blocksOf isSum sumOf rightSum whole fieldLen fieldValue fieldBytes num be gapped posting posts bodyPosts rightBody more gap score
+unfolding checked walk lists list headTerm headCount rightHead oneSum sums oneBody bodiesOf bodies blocksOf isStrip edge isSum sumOf rightSum whole fieldLen fieldValue fieldBytes num be gapped posting posts bodyPosts rightBody more gap score
 cut-short = refl

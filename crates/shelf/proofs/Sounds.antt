@@ -3,7 +3,7 @@ use Prim.Native.Nat.{ℕ, zero, suc, _+_, _*_, _-_, _≤_, _<_}
 use native.Mathlib.Omega.{arith}
 use mathlib.Core.Path.{_≡_, refl, ap, _∙_}
 use mathlib.Core.List.{List, [], _∷_}
-use mathlib.Core.Bool.{true}
+use mathlib.Core.Bool.{Bool, true, false}
 use lib.Dec.{leb}
 use lib.ListN.{length, drop}
 use Rattle.model.specs.Outcome.{Outcome, refused, done, andThen}
@@ -12,12 +12,12 @@ use Rattle.model.proofs.Lists.{split, All-append, Bytes, bytes-drop, bytes-take
 use Rattle.model.proofs.Posts.{rising-join, last-any}
 use Rattle.wire.specs.Field.{fieldLen, fieldValue}
 use Rattle.block.specs.Summary.{isSum, sumOf, rightSum}
-use Rattle.block.specs.Body.{rightBody}
+use Rattle.block.specs.Body.{isStrip, rightBody}
 use Rattle.block.proofs.Summaries.{right-facts}
 use Rattle.block.proofs.Contents.{right-body}
 use Rattle.shelf.specs.Walk.{Block, Listing, postsOf, headTerm, headCount, rightHead, oneSum, sums, bodies, blocksOf, listed, list, onto, lists, walk}
 use Rattle.shelf.specs.Check.{badBody, orElse, badLists, verdict, checked}
-use Rattle.shelf.proofs.Walks.{head-facts}
+use Rattle.shelf.proofs.Walks.{any-strip, any-greatest, head-facts}
 use Rattle.shelf.specs.declared.check.BadRead.{BadRead}
 use Rattle.shelf.specs.declared.check.BadRead.the-variants.{BadAt, NoBad}
 
@@ -35,13 +35,14 @@ unfolding sums oneSum blocksOf
 sums-good zero prev a b e m s h q f = tt
 sums-good (suc n) prev a b e m s h q f =
     let k = 3 + fieldLen s in
+    let x = sumOf (isStrip s) m in
     split (isSum m)
-    (λ i. split (rightSum prev (sumOf m))
-    (λ r. split (rightBody (sumOf m) (fieldValue s))
+    (λ i. split (rightSum prev (sumOf false m))
+    (λ r. split (rightBody x (fieldValue s))
     (λ w.
-    let q1 : sums n (sumOf m .greatest) (a + 12) (drop 12 m) ≡ done e = rw (i, r) at q in
+    let q1 : sums n (sumOf false m .greatest) (a + 12) (drop 12 m) ≡ done e = rw (i, r) at q in
     let f1 : badBody (blocksOf n (a + 12) (drop 12 m) (b + k) (drop k s)) ≡ NoBad = rw w at f in
-    (r, w, bytes-value s h, sums-good n (sumOf m .greatest) (a + 12) (b + k) e (drop 12 m) (drop k s) (bytes-drop k s h) q1 f1))
+    (any-strip (isStrip s) prev m ∙ r, w, bytes-value s h, rw (any-greatest (isStrip s) m) (sums-good n (sumOf false m .greatest) (a + 12) (b + k) e (drop 12 m) (drop k s) (bytes-drop k s h) q1 f1)))
     (λ w. let g : BadAt b ≡ NoBad = rw w at f in let z : _≡_ {A = ℕ} 0 1 = cc in absurd (omega arith)))
     (λ r. let g : refused 7 a ≡ done e = rw (i, r) at q in let z : _≡_ {A = ℕ} 0 1 = cc in absurd (omega arith)))
     (λ i. let g : refused 6 a ≡ done e = rw i at q in let z : _≡_ {A = ℕ} 0 1 = cc in absurd (omega arith))

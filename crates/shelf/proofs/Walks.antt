@@ -4,7 +4,7 @@ use native.Mathlib.Omega.{arith}
 use native.Mathlib.Numerals.{sub-one}
 use mathlib.Core.Path.{_≡_, refl, sym, ap, _∙_}
 use mathlib.Core.List.{List, [], _∷_}
-use mathlib.Core.Bool.{true, false, cond, _&&_}
+use mathlib.Core.Bool.{Bool, true, false, cond, _&&_}
 use borrow.Author.Tests.{leb-true, eqb-true, le-leb, lt-leb, eq-eqb, ne-eqb, lt-ltb, le-ltb}
 use lib.Dec.{leb, ltb, eqb}
 use lib.ListN.{length, getD, take, drop, length-drop}
@@ -15,11 +15,12 @@ use Rattle.model.proofs.Lists.{split, and-true, rest-cons, rest-none}
 use Rattle.wire.specs.Number.{num}
 use Rattle.wire.specs.Field.{whole, fieldLen, fieldValue, fieldAt}
 use Rattle.wire.specs.declared.field.FieldRead.the-variants.{Whole, Missing}
-use Rattle.wire.proofs.Fields.{field-is, field-not, whole-size, len-at, value-at}
+use Rattle.wire.proofs.Fields.{field-is, field-not, whole-size, whole-tag, len-at, value-at}
 use Rattle.block.specs.Summary.{isSum, sumOf, rightSum}
+use Rattle.block.specs.Body.{isStrip, tagOf}
 use Rattle.block.specs.declared.summary.Summary.{Summary}
 use Rattle.block.proofs.Summaries.{sum-room}
-use Rattle.shelf.specs.Walk.{Listing, headTerm, headCount, rightHead, oneSum, sums, oneBody, bodies, blocksAt, listed, list, onto, lists}
+use Rattle.shelf.specs.Walk.{Listing, headTerm, headCount, rightHead, oneSum, sums, oneBody, bodiesOf, bodies, blocksAt, listed, list, onto, lists}
 use Rattle.shelf.specs.Answers.{headAt, placeOf, listOf, Ready}
 use Rattle.shelf.specs.declared.walk.Place.{Place}
 use Rattle.shelf.specs.declared.walk.HeadRead.the-variants.{Head, NoHead}
@@ -117,6 +118,15 @@ head-facts floor s e =
 
 -- ---- summaries at a place
 
+-- a summary's numbers are judged whatever the layout of its body
+pub any-strip : (strip : Bool) (prev : ℕ) (m : List ℕ) → rightSum prev (sumOf strip m) ≡ rightSum prev (sumOf false m)
+unfolding rightSum sumOf
+any-strip strip prev m = refl
+
+pub any-greatest : (strip : Bool) (m : List ℕ) → sumOf strip m .greatest ≡ sumOf false m .greatest
+unfolding sumOf
+any-greatest strip m = refl
+
 module _ (n prev at : ℕ) (s : List ℕ) where
   pub sums-none : n ≤ 0 → sums n prev at (drop at s) ≡ done at
   unfolding sums
@@ -128,11 +138,11 @@ sums-more zero prev at s h = absurd (omega arith)
 sums-more (suc n) prev at s h = rw (sub-one, drop-drop 12 at s)
 
 module _ (n prev at : ℕ) (s : List ℕ) (some : 0 < n) where
-  pub sums-step : (m : Summary) → isSum (drop at s) ≡ true → sumOf (drop at s) ≡ m → rightSum prev m ≡ true → sums n prev at (drop at s) ≡ sums (n - 1) (m .greatest) (at + 12) (drop (at + 12) s)
+  pub sums-step : (m : Summary) → isSum (drop at s) ≡ true → sumOf false (drop at s) ≡ m → rightSum prev m ≡ true → sums n prev at (drop at s) ≡ sums (n - 1) (m .greatest) (at + 12) (drop (at + 12) s)
   unfolding oneSum
   sums-step m i e r = rw (sums-more n prev at s some, i, e, r)
 
-  pub sums-wrong : (m : Summary) → isSum (drop at s) ≡ true → sumOf (drop at s) ≡ m → rightSum prev m ≡ false → sums n prev at (drop at s) ≡ refused 7 at
+  pub sums-wrong : (m : Summary) → isSum (drop at s) ≡ true → sumOf false (drop at s) ≡ m → rightSum prev m ≡ false → sums n prev at (drop at s) ≡ refused 7 at
   unfolding oneSum
   sums-wrong m i e r = rw (sums-more n prev at s some, i, e, r)
 
@@ -142,20 +152,26 @@ module _ (n prev at : ℕ) (s : List ℕ) (some : 0 < n) where
 
 -- ---- bodies at a place
 
-pub bodies-none : (n at : ℕ) (s : List ℕ) → n ≤ 0 → bodies n at (drop at s) ≡ done at
-unfolding bodies
-bodies-none n at s h = let z : n ≡ 0 = omega arith in rw z
+pub bodies-none : (strip : Bool) (n at : ℕ) (s : List ℕ) → n ≤ 0 → bodiesOf strip n at (drop at s) ≡ done at
+unfolding bodiesOf
+bodies-none strip n at s h = let z : n ≡ 0 = omega arith in rw z
 
-pub bodies-step : (n at : ℕ) (s : List ℕ) → 0 < n → whole 3 (drop at s) ≡ true →
-    bodies n at (drop at s) ≡ bodies (n - 1) (at + (3 + fieldLen (drop at s))) (drop (at + (3 + fieldLen (drop at s))) s)
-unfolding bodies oneBody
-bodies-step zero at s h w = absurd (omega arith)
-bodies-step (suc n) at s h w = rw (sub-one, w, drop-drop (3 + fieldLen (drop at s)) at s)
+pub bodies-step : (strip : Bool) (n at : ℕ) (s : List ℕ) → 0 < n → whole (tagOf strip) (drop at s) ≡ true →
+    bodiesOf strip n at (drop at s) ≡ bodiesOf strip (n - 1) (at + (3 + fieldLen (drop at s))) (drop (at + (3 + fieldLen (drop at s))) s)
+unfolding bodiesOf oneBody
+bodies-step strip zero at s h w = absurd (omega arith)
+bodies-step strip (suc n) at s h w = rw (sub-one, w, drop-drop (3 + fieldLen (drop at s)) at s)
 
-pub bodies-missing : (n at : ℕ) (s : List ℕ) → 0 < n → whole 3 (drop at s) ≡ false → bodies n at (drop at s) ≡ refused 6 at
-unfolding bodies oneBody
-bodies-missing zero at s h w = absurd (omega arith)
-bodies-missing (suc n) at s h w = rw w
+pub bodies-missing : (strip : Bool) (n at : ℕ) (s : List ℕ) → 0 < n → whole (tagOf strip) (drop at s) ≡ false → bodiesOf strip n at (drop at s) ≡ refused 6 at
+unfolding bodiesOf oneBody
+bodies-missing strip zero at s h w = absurd (omega arith)
+bodies-missing strip (suc n) at s h w = rw w
+
+-- a body's tag tells its layout
+pub strip-is : (strip : Bool) (s : List ℕ) → whole (tagOf strip) s ≡ true → isStrip s ≡ strip
+unfolding isStrip
+strip-is true s w = rw (whole-tag 4 s w)
+strip-is false s w = rw (whole-tag 3 s w)
 
 -- ---- where they end
 
@@ -168,8 +184,8 @@ unfolding sums oneSum
 sums-ends zero prev at s = (omega arith, omega arith)
 sums-ends (suc n) prev at s =
     split (isSum s)
-    (λ i. split (rightSum prev (sumOf s))
-    (λ r. rw (i, r) (more (sums n (sumOf s .greatest) (at + 12) (drop 12 s)) (sum-room s i) (sums-ends n (sumOf s .greatest) (at + 12) (drop 12 s))))
+    (λ i. split (rightSum prev (sumOf false s))
+    (λ r. rw (i, r) (more (sums n (sumOf false s .greatest) (at + 12) (drop 12 s)) (sum-room s i) (sums-ends n (sumOf false s .greatest) (at + 12) (drop 12 s))))
     (λ r. rw (i, r) tt))
     (λ i. rw i tt)
   where
@@ -184,49 +200,54 @@ abbrev BodiesEnd : (at size : ℕ) → Outcome ℕ → Type 0
 BodiesEnd at size (done e) = (at ≤ e) × (e ≤ at + size)
 BodiesEnd at size (refused k o) = Unit {0}
 
-bodies-ends : (n at : ℕ) (s : List ℕ) → BodiesEnd at (length s) (bodies n at s)
-unfolding bodies oneBody
-bodies-ends zero at s = (omega arith, omega arith)
-bodies-ends (suc n) at s =
+bodies-ends : (strip : Bool) (n at : ℕ) (s : List ℕ) → BodiesEnd at (length s) (bodiesOf strip n at s)
+unfolding bodiesOf oneBody
+bodies-ends strip zero at s = (omega arith, omega arith)
+bodies-ends strip (suc n) at s =
     let k = 3 + fieldLen s in
-    split (whole 3 s)
-    (λ w. rw w (more (bodies n (at + k) (drop k s)) (whole-size 3 s w) (bodies-ends n (at + k) (drop k s))))
+    split (whole (tagOf strip) s)
+    (λ w. rw w (more (bodiesOf strip n (at + k) (drop k s)) (whole-size (tagOf strip) s w) (bodies-ends strip n (at + k) (drop k s))))
     (λ w. rw w tt)
   where
     more : (r : Outcome ℕ) → 3 + fieldLen s ≤ length s → BodiesEnd (at + (3 + fieldLen s)) (length (drop (3 + fieldLen s) s)) r → BodiesEnd at (length s) r
     more (done e) h p = (omega (arith, p .0), omega (arith, p .1, length-drop (3 + fieldLen s) s))
     more (refused k o) h p = tt
 
-pub bodies-place : (n at : ℕ) (s : List ℕ) (e : ℕ) → bodies n at s ≡ done e → (at ≤ e) × (e ≤ at + length s)
-bodies-place n at s e q = rw q at (bodies-ends n at s)
+pub bodies-place : (strip : Bool) (n at : ℕ) (s : List ℕ) (e : ℕ) → bodiesOf strip n at s ≡ done e → (at ≤ e) × (e ≤ at + length s)
+bodies-place strip n at s e q = rw q at (bodies-ends strip n at s)
+
+-- of all bodies of a list
+pub all-place : (n at : ℕ) (s : List ℕ) (e : ℕ) → bodies n at s ≡ done e → (at ≤ e) × (e ≤ at + length s)
+unfolding bodies
+all-place n at s e q = bodies-place (isStrip s) n at s e q
 
 -- the body in front is whole
-pub bodies-whole : (n at : ℕ) (s : List ℕ) (e : ℕ) → 0 < n → bodies n at (drop at s) ≡ done e → whole 3 (drop at s) ≡ true
-bodies-whole n at s e h q =
-    split (whole 3 (drop at s))
+pub bodies-whole : (strip : Bool) (n at : ℕ) (s : List ℕ) (e : ℕ) → 0 < n → bodiesOf strip n at (drop at s) ≡ done e → whole (tagOf strip) (drop at s) ≡ true
+bodies-whole strip n at s e h q =
+    split (whole (tagOf strip) (drop at s))
     (λ w. w)
-    (λ w. let f : refused 6 at ≡ done e = sym (bodies-missing n at s h w) ∙ q in let z : _≡_ {A = ℕ} 0 1 = cc in absurd (omega arith))
+    (λ w. let f : refused 6 at ≡ done e = sym (bodies-missing strip n at s h w) ∙ q in let z : _≡_ {A = ℕ} 0 1 = cc in absurd (omega arith))
 
 -- what a turn over the bodies needs of the body at b, of which the code read the length r
-pub record BodyTurn (n b r end : ℕ) (s : List ℕ) : Type 0 where
+pub record BodyTurn (strip : Bool) (n b r end : ℕ) (s : List ℕ) : Type 0 where
   pub within : b + 3 + r ≤ length s
   pub value : take (b + 3 + r - (b + 3)) (drop (b + 3) s) ≡ fieldValue (drop b s)
   pub past : b + 3 + r ≡ b + (3 + fieldLen (drop b s))
-  pub rest : bodies (n - 1) (b + 3 + r) (drop (b + 3 + r) s) ≡ done end
+  pub rest : bodiesOf strip (n - 1) (b + 3 + r) (drop (b + 3 + r) s) ≡ done end
 
-pub body-room : (n b end : ℕ) (s : List ℕ) → 0 < n → bodies n b (drop b s) ≡ done end → b + 3 ≤ length s
-body-room n b end s h e = omega (arith, whole-size 3 (drop b s) (bodies-whole n b s end h e), length-drop b s)
+pub body-room : (strip : Bool) (n b end : ℕ) (s : List ℕ) → 0 < n → bodiesOf strip n b (drop b s) ≡ done end → b + 3 ≤ length s
+body-room strip n b end s h e = omega (arith, whole-size (tagOf strip) (drop b s) (bodies-whole strip n b s end h e), length-drop b s)
 
-pub body-turn : (n b r end : ℕ) (s : List ℕ) → 0 < n → r ≡ num 2 (drop (b + 1) s) → bodies n b (drop b s) ≡ done end → BodyTurn n b r end s
-body-turn n b r end s h q e =
-    let w = bodies-whole n b s end h e in
+pub body-turn : (strip : Bool) (n b r end : ℕ) (s : List ℕ) → 0 < n → r ≡ num 2 (drop (b + 1) s) → bodiesOf strip n b (drop b s) ≡ done end → BodyTurn strip n b r end s
+body-turn strip n b r end s h q e =
+    let w = bodies-whole strip n b s end h e in
     let l : r ≡ fieldLen (drop b s) = q ∙ sym (len-at s b) in
     let p : b + 3 + r ≡ b + (3 + fieldLen (drop b s)) = omega arith in
     record {
-      within = omega (arith, whole-size 3 (drop b s) w, length-drop b s);
+      within = omega (arith, whole-size (tagOf strip) (drop b s) w, length-drop b s);
       value = value-at s b r l;
       past = p;
-      rest = ap (λ (x : ℕ). bodies (n - 1) x (drop x s)) p ∙ sym (bodies-step n b s h w) ∙ e;
+      rest = ap (λ (x : ℕ). bodiesOf strip (n - 1) x (drop x s)) p ∙ sym (bodies-step strip n b s h w) ∙ e;
     }
 
 -- ---- the list at a place
@@ -272,7 +293,7 @@ module _ (floor at : ℕ) (s : List ℕ) (h : rightHead floor (drop at s) ≡ tr
   walking-bodies b q room (done next) e =
       let n = headCount (drop at s) in
       let f : bodies n (at + 8 + 12 * n) (drop (at + 8 + 12 * n) s) ≡ done next = ap (λ (x : ℕ). bodies n x (drop (at + 8 + 12 * n) s)) (sym q) ∙ e in
-      let p = bodies-place n (at + 8 + 12 * n) (drop (at + 8 + 12 * n) s) next f in
+      let p = all-place n (at + 8 + 12 * n) (drop (at + 8 + 12 * n) s) next f in
       let r8 = head-room floor (drop at s) h in
       let fit : at + 8 + 12 * n ≤ length s = omega (arith, length-drop (at + 8) s, length-drop at s) in
       record {

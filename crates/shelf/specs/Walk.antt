@@ -2,7 +2,7 @@
 -- the bytes s begin. Assumes nothing.
 use Prim.Native.Nat.{ℕ, zero, suc, _+_, _*_, _-_}
 use mathlib.Core.List.{List, [], _∷_, _++_}
-use mathlib.Core.Bool.{Bool, cond, _&&_}
+use mathlib.Core.Bool.{Bool, false, cond, _&&_}
 use lib.Dec.{leb, ltb, eqb}
 use lib.ListN.{length, drop}
 use Rattle.model.specs.Limits.{perList, maxLists, maxShelf}
@@ -12,11 +12,11 @@ use Rattle.wire.specs.Read.{Read, got, stopped}
 use Rattle.wire.specs.Number.{num}
 use Rattle.wire.specs.Field.{whole, fieldLen, fieldValue}
 use Rattle.block.specs.Summary.{isSum, sumOf, rightSum}
-use Rattle.block.specs.Body.{bodyPosts}
+use Rattle.block.specs.Body.{isStrip, tagOf, bodyPosts}
 use Rattle.block.specs.declared.summary.Summary.{Summary}
 use Rattle.shelf.specs.declared.walk.Place.{Place}
 
--- a block: its summary and the offset of the summary's tag, its body and the offset of the body's tag
+-- a block: its summary with its body's layout, and the offset of the summary's tag; its body and the offset of the body's tag
 pub record Block : Type 0 where
   pub at : ℕ
   pub sum : Summary
@@ -37,6 +37,11 @@ abbrev pub postsOf : List Block → List Post
 postsOf [] = []
 postsOf (b ∷ bs) = readOr (bodyPosts (b .sum) (b .body)) ++ postsOf bs
 
+-- the layout of a list's bodies, which is the first one's
+abbrev pub stripOf : List Block → Bool
+stripOf [] = false
+stripOf (b ∷ bs) = b .sum .strip
+
 -- ---- "tag 01, length 5: term (4), block count (1)"
 
 unfoldable pub headTerm : List ℕ → ℕ
@@ -53,29 +58,33 @@ rightHead floor s =
 -- ---- "one tag 02 per block, length 9"; past a right summary it goes on from its greatest docid
 
 unfoldable pub oneSum : (prev at : ℕ) → List ℕ → Outcome ℕ
-oneSum prev at s = cond (isSum s) (cond (rightSum prev (sumOf s)) (done (sumOf s .greatest)) (refused 7 at)) (refused 6 at)
+oneSum prev at s = cond (isSum s) (cond (rightSum prev (sumOf false s)) (done (sumOf false s .greatest)) (refused 7 at)) (refused 6 at)
 
 -- n summaries: the place past them
 unfoldable pub sums : (n prev at : ℕ) → List ℕ → Outcome ℕ
 sums zero prev at s = done at
 sums (suc n) prev at s = andThen (oneSum prev at s) (λ greatest. sums n greatest (at + 12) (drop 12 s))
 
--- ---- "one tag 03 per block, in the same order"; "body lengths may be any"
+-- ---- "one tag 03 per block, in the same order"; "body lengths may be any"; "A body may now be tag 04"
 
-unfoldable pub oneBody : (at : ℕ) → List ℕ → Outcome ℕ
-oneBody at s = cond (whole 3 s) (done (3 + fieldLen s)) (refused 6 at)
+unfoldable pub oneBody : (strip : Bool) (at : ℕ) → List ℕ → Outcome ℕ
+oneBody strip at s = cond (whole (tagOf strip) s) (done (3 + fieldLen s)) (refused 6 at)
 
--- n bodies: the place past them
+-- n bodies of one layout: the place past them
+unfoldable pub bodiesOf : (strip : Bool) (n at : ℕ) → List ℕ → Outcome ℕ
+bodiesOf strip zero at s = done at
+bodiesOf strip (suc n) at s = andThen (oneBody strip at s) (λ k. bodiesOf strip n (at + k) (drop k s))
+
+-- "All bodies of a list have one tag", which is the first one's: "mixed tags in one list are 6"
 unfoldable pub bodies : (n at : ℕ) → List ℕ → Outcome ℕ
-bodies zero at s = done at
-bodies (suc n) at s = andThen (oneBody at s) (λ k. bodies n (at + k) (drop k s))
+bodies n at s = bodiesOf (isStrip s) n at s
 
 -- ---- the n blocks whose summaries begin with the bytes m, at a, and whose bodies with the bytes s, at b
 
 unfoldable pub blocksOf : (n a : ℕ) → List ℕ → (b : ℕ) → List ℕ → List Block
 blocksOf zero a m b s = []
 blocksOf (suc n) a m b s =
-    record { at = a; sum = sumOf m; bodyAt = b; body = fieldValue s }
+    record { at = a; sum = sumOf (isStrip s) m; bodyAt = b; body = fieldValue s }
     ∷ blocksOf n (a + 12) (drop 12 m) (b + (3 + fieldLen s)) (drop (3 + fieldLen s) s)
 
 -- the same at a place of the shelf, for a list that begins there

@@ -45,7 +45,7 @@ impl Reading {
         let b = self.body;
         let v = b + 3;
         let e = v + wire::number::be2(s, b + 1) as usize;
-        let m = block::summary::summary_in(s, a);
+        let m = block::summary::summary_in(s, a, block::body::is_strip(s, b));
         BlockStep::Block(
             m,
             v,

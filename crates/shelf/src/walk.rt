@@ -85,14 +85,15 @@ fn sums_at(s: &[u8], at: usize, n: u8) -> PlaceRead
     PlaceRead::Past(p)
 }
 
-// The bodies of a list's `n` blocks, of any length.
+// The bodies of a list's `n` blocks, of any length: all have the first one's tag.
 pub fn bodies_at(s: &[u8], at: usize, n: u8) -> PlaceRead
     ensures { λ r. ⌜ r ≡ placeOf (bodies n at (drop at (now (s .entry)))) ⌝ }
 {
+    let tag = block::body::tag_of(block::body::is_strip(s, at));
     let mut p = at;
     let mut left = n;
     while 0 < left {
-        match wire::field::field(s, p, 3) {
+        match wire::field::field(s, p, tag) {
             FieldRead::Whole(len) => {
                 p += 3 + len;
                 left -= 1;

@@ -1,4 +1,4 @@
-// A history of edits. After each the table says what must have come of it.
+// A history of edits and conversions. After each the table says what must have come of it.
 use list::answer::Answer;
 use shelf::check::Checked;
 
@@ -7,6 +7,8 @@ const SET: u8 = 0;
 const CLEAR: u8 = 1;
 
 const WITHDRAW: u8 = 2;
+
+const CONVERT: u8 = 3;
 
 // What stands in the output before an edit.
 const BLANK: u8 = 0xa5;
@@ -21,16 +23,19 @@ pub(crate) struct Edit {
 
 // ---- an edit by chance
 
-// Of 32 edits, as many set as `sets` says, one withdraws, and the rest clear.
+// Of 36 steps, as many set as `sets` says, one withdraws, four convert, and the rest clear.
 fn kind(seed: &mut u64, sets: u64) -> u8 {
-    let d = crate::chance::draw(seed, 32);
+    let d = crate::chance::draw(seed, 36);
     if d < sets {
         return SET;
     }
     if d < 31 {
         return CLEAR;
     }
-    WITHDRAW
+    if d == 31 {
+        return WITHDRAW;
+    }
+    CONVERT
 }
 
 // The sheet's docid, or now and then one out of range.
@@ -59,10 +64,12 @@ fn term(seed: &mut u64) -> usize {
     crate::chance::draw(seed, bound) as usize
 }
 
+// The high terms are set on three sheets only, so that their lists are emptied and made anew.
 fn choose(seed: &mut u64, sets: u64) -> Edit {
     let kind = kind(seed, sets);
     let term = term(seed);
-    let sheet = crate::chance::draw(seed, 256) as usize;
+    let any = crate::chance::draw(seed, 256) as usize;
+    let sheet = if 9 < term { any % 3 * 85 } else { any };
     let docid = docid(seed, sheet);
     let score = score(seed);
     Edit {
@@ -78,6 +85,10 @@ fn choose(seed: &mut u64, sets: u64) -> Edit {
 
 // The number of the refusal that is due, or 0.
 fn due(table: &[u16], edit: Edit) -> u8 {
+    if edit.kind == CONVERT {
+        let listed = crate::table::listed(table, edit.term);
+        return if listed { 0 } else { 12 };
+    }
     if edit.docid == 0 {
         return 10;
     }
@@ -107,6 +118,10 @@ fn apply(table: &mut [u16], edit: Edit) {
         crate::table::store(table, edit.term, edit.sheet, 0);
         return;
     }
+    if edit.kind == CONVERT {
+        crate::table::turn(table, edit.term);
+        return;
+    }
     crate::table::withdraw(table, edit.sheet);
 }
 
@@ -119,6 +134,9 @@ fn make(shelf: &[u8], edit: Edit, out: &mut [u8]) -> Answer {
     }
     if edit.kind == CLEAR {
         return edit::edit::clear(shelf, term, edit.docid, out);
+    }
+    if edit.kind == CONVERT {
+        return convert::convert::convert(shelf, term, out);
     }
     edit::edit::withdraw(shelf, edit.docid, out)
 }
@@ -155,20 +173,24 @@ fn right_shelf(table: &[u16], out: &[u8], n: usize, fresh: &mut [u8]) -> bool {
     crate::total::only(out, n, BLANK)
 }
 
-// An edit that was accepted: the table follows it, and then the shelf.
+// An edit that was accepted: the table follows it, and then the shelf, whose length a conversion keeps. Where the edit's term then has a strip,
+// that strip was compared with the writer's.
 fn follow(
     table: &mut [u16],
     shelf: &mut [u8],
+    held: usize,
     edit: Edit,
     out: &[u8],
     n: usize,
     fresh: &mut [u8],
     tally: &mut [u64],
 ) {
-    crate::tally::add(tally, crate::tally::ACCEPTED, 1);
     crate::tally::expect(tally, due(table, edit) == 0);
     apply(table, edit);
-    crate::tally::expect(tally, right_shelf(table, out, n, fresh));
+    let kept = n == held || edit.kind != CONVERT;
+    crate::tally::expect(tally, right_shelf(table, out, n, fresh) & kept);
+    let strip = crate::table::strip_at(table, edit.term);
+    crate::tally::add(tally, crate::tally::STRIPS, if strip { 1 } else { 0 });
     crate::total::copy(out, 0, n, shelf, 0);
 }
 
@@ -182,16 +204,28 @@ fn step(
     fresh: &mut [u8],
     tally: &mut [u64],
 ) -> usize {
+    let converts = edit.kind == CONVERT;
     crate::total::fill(out, BLANK);
     match make(crate::total::front8(shelf, n), edit, out) {
         Answer::Refused(number, at) => {
             let due = due(table, edit);
-            crate::tally::add(tally, crate::tally::REFUSED, 1);
+            let count = if converts {
+                crate::tally::UNCONVERTED
+            } else {
+                crate::tally::REFUSED
+            };
+            crate::tally::add(tally, count, 1);
             crate::tally::expect(tally, right_refusal(out, number, at, due));
             n
         }
         Answer::Done(m) => {
-            follow(table, shelf, edit, out, m, fresh, tally);
+            let count = if converts {
+                crate::tally::CONVERTED
+            } else {
+                crate::tally::ACCEPTED
+            };
+            crate::tally::add(tally, count, 1);
+            follow(table, shelf, n, edit, out, m, fresh, tally);
             m
         }
     }
@@ -214,7 +248,7 @@ fn turn(
     n
 }
 
-// Edits, `sets` of 32 being sets, each followed by a query; gives the shelf's length.
+// Edits and conversions, `sets` of 36 being sets, each followed by a query; gives the shelf's length.
 pub(crate) fn run(
     table: &mut [u16],
     shelf: &mut [u8],

@@ -49,10 +49,35 @@ fn queries(table: &[u16], shelf: &[u8], tally: &mut [u64]) {
 
 // ---- lists
 
-fn refused_with(answer: Answer, number: u8) -> bool {
+pub(crate) fn refused_with(answer: Answer, number: u8, at: usize) -> bool {
     match answer {
         Answer::Done(_) => false,
-        Answer::Refused(n, o) => n == number && o == 0,
+        Answer::Refused(n, o) => n == number && o == at,
+    }
+}
+
+// Whether a shelf is another once a term's list is converted. An output of one byte is too short for that, which a term with no list never meets: "12, 9".
+pub(crate) fn turned(shelf: &[u8], term: u32, other: &[u8]) -> bool {
+    let mut short = [0u8; 1];
+    let mut out = [0u8; 65536];
+    if !refused_with(convert::convert::convert(shelf, term, &mut short), 9, 0) {
+        return false;
+    }
+    if !refused_with(
+        convert::convert::convert(shelf, 4294967295, &mut short),
+        12,
+        0,
+    ) {
+        return false;
+    }
+    match convert::convert::convert(shelf, term, &mut out) {
+        Answer::Refused(_, _) => false,
+        Answer::Done(n) => {
+            if n != other.len() {
+                return false;
+            }
+            n == shelf.len() && crate::total::same8(&out, other, n)
+        }
     }
 }
 
@@ -84,14 +109,14 @@ fn reads_as(shelf: &[u8], term: u32, docids: &[u32], scores: &[u16]) -> bool {
     }
 }
 
-// Both rankers on a shelf of one list, with a k.
-fn ranked_alike(shelf: &[u8], term: u32, k: u8) -> bool {
+// The exhaustive ranker on a shelf of one list, and the pruned one on another, with a k.
+fn ranked_alike(shelf: &[u8], other: &[u8], term: u32, k: u8) -> bool {
     let mut query = [0u8; 12];
     crate::asking::put_k(&mut query, k);
     crate::asking::put_term(&mut query, 0, term, 255);
     let all = exhaustive::all::rank_all(&query, shelf, 100);
     let verdict = all.verdict;
-    let book = crate::pruning::search(&query, shelf);
+    let book = crate::pruning::search(&query, other);
     if crate::comparing::done(verdict) {
         return crate::pruning::agree(all, book);
     }
@@ -112,9 +137,10 @@ fn right_list(shelf: &[u8], docids: &[u32], scores: &[u16], blocks: u8, len: usi
     if !reads_as(shelf, 7, docids, scores) {
         return false;
     }
-    ranked_alike(shelf, 7, 100)
+    ranked_alike(shelf, shelf, 7, 100)
 }
 
+// A list, and the same as a strip: each is right, as long as the other, and the other converted; both rank alike.
 fn list_taken(
     docids: &[u32],
     scores: &[u16],
@@ -123,11 +149,17 @@ fn list_taken(
     out: &mut [u8],
     tally: &mut [u64],
 ) {
-    let n = crate::writing::append(out, 0, 7, docids, scores);
-    crate::tally::case(
-        tally,
-        right_list(crate::total::front8(out, n), docids, scores, blocks, len),
-    );
+    let mut other = [0u8; 20104];
+    let n = crate::writing::append(out, 0, false, 7, docids, scores);
+    let m = crate::writing::append(&mut other, 0, true, 7, docids, scores);
+    let list = crate::total::front8(out, n);
+    let strip = crate::total::front8(&other, m);
+    let right = right_list(list, docids, scores, blocks, len);
+    let right_strip = right_list(strip, docids, scores, blocks, len);
+    let alike = ranked_alike(list, strip, 7, 100);
+    let there = turned(list, 7, strip);
+    let back = turned(strip, 7, list);
+    crate::tally::case(tally, right & right_strip & alike & there & back);
 }
 
 // A list of the first n postings.
@@ -152,15 +184,19 @@ fn one_too_many(shelf: &[u8], out: &mut [u8], tally: &mut [u64]) {
     lay(&mut docids, &mut scores);
     crate::tally::case(
         tally,
-        refused_with(list::write::write_list(7, &docids, &scores, out), 11),
+        refused_with(
+            list::write::write_list(false, 7, &docids, &scores, out),
+            11,
+            0,
+        ),
     );
     crate::tally::case(
         tally,
-        refused_with(edit::edit::set(shelf, 7, 19201, 1, out), 11),
+        refused_with(edit::edit::set(shelf, 7, 19201, 1, out), 11, 0),
     );
 }
 
-// "100 and 101 postings (one block, two); 6,400 and 6,401"
+// "100 and 101 postings (one block, two); 6,400 and 6,401", each as a strip too, which takes as many bytes.
 fn lists(out: &mut [u8], other: &mut [u8], tally: &mut [u64]) {
     first_taken(100, 1, 322, out, tally);
     first_taken(101, 2, 339, out, tally);
@@ -198,7 +234,7 @@ fn docid_taken(docid: u32, out: &mut [u8]) -> bool {
 }
 
 fn docid_refused(docid: u32, out: &mut [u8]) -> bool {
-    refused_with(edit::edit::set(b"", 7, docid, 9, out), 10)
+    refused_with(edit::edit::set(b"", 7, docid, 9, out), 10, 0)
 }
 
 fn docids(out: &mut [u8], tally: &mut [u64]) {

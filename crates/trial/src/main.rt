@@ -23,6 +23,9 @@ fn print(word: &[u8], tally: &[u64], kind: usize) {
 fn report_edits(tally: &[u64]) {
     print(b"edits accepted ", tally, crate::tally::ACCEPTED);
     print(b" refused ", tally, crate::tally::REFUSED);
+    print(b"\nconversions accepted ", tally, crate::tally::CONVERTED);
+    print(b" refused ", tally, crate::tally::UNCONVERTED);
+    print(b" strips ", tally, crate::tally::STRIPS);
 }
 
 fn report_queries(tally: &[u64]) {
@@ -47,7 +50,7 @@ fn report(tally: &[u64]) {
     report_rest(tally);
 }
 
-// A history of edits; then the same postings in small blocks, and the shelf damaged. Gives the shelf's length.
+// A history of edits and conversions; then the same postings in small blocks, and the shelf damaged. Gives the shelf's length.
 fn stage(
     table: &mut [u16],
     shelf: &mut [u8],
@@ -60,15 +63,15 @@ fn stage(
     tally: &mut [u64],
 ) -> usize {
     let n = crate::history::run(table, shelf, held, edits, sets, seed, out, fresh, tally);
-    crate::pieces::run(table, 20, 20, seed, out, tally);
+    crate::pieces::run(table, 20, 20, seed, out, fresh, tally);
     crate::damage::run(shelf, n, 200, seed, tally);
     n
 }
 
 // The shelf grows, and shrinks again; the paper's list comes between.
 fn main() {
-    let mut table = [0u16; 4096];
-    let mut tally = [0u64; 11];
+    let mut table = [0u16; 4112];
+    let mut tally = [0u64; 14];
     let mut shelf = io::large_buffer();
     let mut out = io::large_buffer();
     let mut fresh = io::large_buffer();

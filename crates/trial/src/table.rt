@@ -1,9 +1,12 @@
 // The postings as they were made: a score for each of 16 terms and 256 sheets, 0 where the term's list does not hold the sheet.
+// Past the scores stands a layout for each term: 1 where its list is a strip (tag 04), else 0.
 ghost use Prim.Native.Nat.{_≤_};
 
 pub(crate) const TERMS: usize = 16;
 
 pub(crate) const SHEETS: usize = 256;
+
+const LAYOUTS: usize = 4096;
 
 // The terms' numbers reach from 0 to nearly the greatest; the one past the last is on no shelf.
 pub(crate) fn term_number(term: usize) -> u32 {
@@ -41,8 +44,35 @@ pub(crate) fn score_at(table: &[u16], term: usize, sheet: usize) -> u16 {
     crate::total::at16(table, cell(term, sheet))
 }
 
+// Whether a term has a list: whether some sheet is in it.
+pub(crate) fn listed(table: &[u16], term: usize) -> bool {
+    let mut s = 0;
+    while s < SHEETS {
+        if 0 < score_at(table, term, s) {
+            return true;
+        }
+        s += 1;
+    }
+    false
+}
+
+// An emptied list's layout goes with it: "a new list gets 03".
 pub(crate) fn store(table: &mut [u16], term: usize, sheet: usize, score: u16) {
     crate::total::put16(table, cell(term, sheet), score);
+    if !listed(table, term) {
+        crate::total::put16(table, LAYOUTS + term % TERMS, 0);
+    }
+}
+
+// Whether a term's list is a strip.
+pub(crate) fn strip_at(table: &[u16], term: usize) -> bool {
+    crate::total::at16(table, LAYOUTS + term % TERMS) == 1
+}
+
+// A term's list gets the other layout.
+pub(crate) fn turn(table: &mut [u16], term: usize) {
+    let layout = if strip_at(table, term) { 0 } else { 1 };
+    crate::total::put16(table, LAYOUTS + term % TERMS, layout);
 }
 
 // Whether some list holds the sheet.

@@ -3,23 +3,29 @@ pub(crate) const ACCEPTED: usize = 0;
 
 pub(crate) const REFUSED: usize = 1;
 
-pub(crate) const QUERIES: usize = 2;
+pub(crate) const CONVERTED: usize = 2;
 
-pub(crate) const HITS: usize = 3;
+pub(crate) const UNCONVERTED: usize = 3;
 
-pub(crate) const INTERVALS: usize = 4;
+pub(crate) const STRIPS: usize = 4;
 
-pub(crate) const BLOCKS: usize = 5;
+pub(crate) const QUERIES: usize = 5;
 
-pub(crate) const OPENED: usize = 6;
+pub(crate) const HITS: usize = 6;
 
-pub(crate) const DAMAGED: usize = 7;
+pub(crate) const INTERVALS: usize = 7;
 
-pub(crate) const FAULTS: usize = 8;
+pub(crate) const BLOCKS: usize = 8;
 
-pub(crate) const CASES: usize = 9;
+pub(crate) const OPENED: usize = 9;
 
-pub(crate) const DIFFER: usize = 10;
+pub(crate) const DAMAGED: usize = 10;
+
+pub(crate) const FAULTS: usize = 11;
+
+pub(crate) const CASES: usize = 12;
+
+pub(crate) const DIFFER: usize = 13;
 
 pub(crate) fn add(tally: &mut [u64], kind: usize, n: u64) {
     if kind < tally.len() {

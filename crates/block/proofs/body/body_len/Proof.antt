@@ -1,12 +1,13 @@
--- `block::body_len` meets its contract. The invariant: what is counted and what is left make the whole. Assumes nothing.
+-- `block::body::body_len` meets its contract. The invariant: what is counted and what is left make the whole, as of a body that is no strip. Assumes nothing.
 use Rattle.model.specs.Post.{postings, Rising}
 use Rattle.model.proofs.Posts.{from, even-tail}
 use Rattle.wire.proofs.Gaps.{in-length}
-use Rattle.block.specs.Body.{laterBytes, bodyBytes}
-use Rattle.block.proofs.Bodies.{Turn, turn, later-none, body-size}
+use Rattle.block.specs.Body.{laterBytes, frontBytes}
+use Rattle.block.proofs.Bodies.{Turn, turn, turn-size, later-none, body-even, body-size}
 use Prim.Native.Nat.{_+_, _-_, _*_, _≤_}
 use native.Mathlib.Omega.{arith}
 use mathlib.Core.Path.{_≡_, sym, ap}
+use mathlib.Core.Bool.{false}
 use denote.Ref.{now}
 use lib.ListN.{length, getD}
 use borrow.Author.Needs.{needs}
@@ -16,7 +17,7 @@ use Rattle.block.proofs.body.body_len.Tie as tie
 abbrev Inv-loop : tie.InvT-loop
 Inv-loop docs scores p₀ t₀ i₀ p t i =
     (1 ≤ i) × (i ≤ length docs) × Rising p (from i docs scores) × (t ≤ 7 * i)
-    × (t + length (laterBytes p (from i docs scores)) ≡ length (bodyBytes (postings docs scores)))
+    × (t + length (laterBytes false p (from i docs scores)) ≡ length (frontBytes false (postings docs scores)))
 
 abbrev μ-loop : tie.MeasureT-loop
 μ-loop docs scores p₀ t₀ i₀ p t i = length docs - i
@@ -67,13 +68,16 @@ loop-less c = search needs
 loop-again : tie.Need-loop-again Inv-loop μ-loop
 loop-again c =
     let t = here (c .before .before) in
-    let v = c .before .before .before .loop .inv in
-    (omega arith, omega arith, t .rise, omega (arith, c .gap-len .ensures, in-length 5 (getD (c .before .before .before .before .before .before .before .args .docs .now) (c .before .before .before .loop .i) 0 - c .before .before .before .loop .p - 1)), omega (arith, c .gap-len .ensures, t .size, v .4))
+    let a = c .before .before .before .before .before .before .before .args in
+    let l = c .before .before .before .loop in
+    let v = l .inv in
+    (omega arith, omega arith, t .rise, omega (arith, c .gap-len .ensures, in-length 5 (getD (c .before .before .before .before .before .before .before .args .docs .now) (c .before .before .before .loop .i) 0 - c .before .before .before .loop .p - 1)), omega (arith, c .gap-len .ensures, turn-size (l .p) (l .i) (a .docs .now) (a .scores .now) t, v .4))
 
 returns : tie.Need-returns Inv-loop μ-loop
-returns c =
-    let v = c .before .loop .inv in
-    omega (arith, v .4, ap length (later-none (c .before .loop .p) (c .before .loop .i) (now (c .before .before .before .before .before .args .docs)) (now (c .before .before .before .before .before .args .scores)) (c .loop-test .left)))
+returns c strip =
+    let a = c .before .before .before .before .before .args in
+    let l = c .before .loop in
+    omega (arith, l .inv .4, ap length (later-none false (l .p) (l .i) (now (a .docs)) (now (a .scores)) (c .loop-test .left)), body-even strip (postings (now (a .docs)) (now (a .scores))))
 
 pub body-len-spec : {M : Type 1} → statement M
 body-len-spec =

@@ -1,12 +1,9 @@
--- `block::put_body` meets its contract: the first score, then the rest. Assumes nothing.
+-- `block::body::put_body` meets its contract: the first score in its turn, then the rest, then a strip's scores. Assumes nothing.
 use Rattle.model.proofs.Storing.{stored-append, stored-as, stored-length, part-end}
 use Rattle.model.proofs.Posts.{even-tail}
-use Rattle.wire.proofs.Numbers.{be-length}
-use Rattle.block.proofs.Bodies.{body-cons, body-size}
+use Rattle.block.proofs.Bodies.{body-cons, body-parts}
 use native.Mathlib.Omega.{arith}
 use mathlib.Core.Path.{sym}
-use denote.Ref.{now}
-use lib.ListN.{getD}
 use borrow.Author.Needs.{needs}
 use Rattle.block.proofs.body.put_body.Statement.{statement}
 use Rattle.block.proofs.body.put_body.Tie as tie
@@ -17,10 +14,11 @@ shared-slice-read-first c = search needs
 shared-slice-read-s : tie.Need-shared-slice-read-s
 shared-slice-read-s c = search needs
 
-put2-requires : tie.Need-put2-requires
-put2-requires c κs =
+put-in-turn-requires : tie.Need-put-in-turn-requires
+put-in-turn-requires c κs =
+    let a = c .before .before .before .before .before .before .args in
     let q = c .before .before .before .before .before .before .pre in
-    omega (arith, q .2, body-size (now (c .before .before .before .before .before .before .args .docs)) (now (c .before .before .before .before .before .before .args .scores)) (q .1 .same) (q .0))
+    omega (arith, q .2, body-parts (a .strip) (a .docs .now) (a .scores .now) (q .1 .same) (q .0))
 
 sub-put-later : tie.Need-sub-put-later
 sub-put-later c = search needs
@@ -42,22 +40,29 @@ part-put-later-end-2 c = search needs
 
 put-later-requires : tie.Need-put-later-requires
 put-later-requires c κs =
+    let a = c .before .before .before .before .before .before .before .before .before .before .before .before .args in
     let q = c .before .before .before .before .before .before .before .before .before .before .before .before .pre in
-    let ds = c .before .before .before .before .before .before .before .before .before .before .before .before .args .docs .now in
-    let ss = c .before .before .before .before .before .before .before .before .before .before .before .before .args .scores .now in
-    rw (part-end 1 ds, part-end 1 ss)
-    (even-tail 0 ds ss (q .0) (q .1), omega (arith, q .2, body-size ds ss (q .1 .same) (q .0), stored-length (c .before .before .before .before .before .put2 .ensures), c .before .before .before .before .before .put2 .ensures .past, be-length 2 (getD ss 0 0)))
+    let s = c .before .before .before .before .before .put-in-turn .ensures in
+    rw (part-end 1 (a .docs .now), part-end 1 (a .scores .now))
+    (even-tail 0 (a .docs .now) (a .scores .now) (q .0) (q .1), omega (arith, q .2, body-parts (a .strip) (a .docs .now) (a .scores .now) (q .1 .same) (q .0), stored-length s, s .past))
+
+put-strip-requires : tie.Need-put-strip-requires
+put-strip-requires c κs =
+    let a = c .before .before .before .before .before .before .before .before .before .before .before .before .before .before .before .before .args in
+    let q = c .before .before .before .before .before .before .before .before .before .before .before .before .before .before .before .before .pre in
+    let s = c .before .before .before .before .before .before .before .before .before .put-in-turn .ensures in
+    let t = rw (part-end 1 (a .docs .now), part-end 1 (a .scores .now)) at (c .before .before .before .put-later .ensures) in
+    (q .1 .same, omega (arith, q .2, body-parts (a .strip) (a .docs .now) (a .scores .now) (q .1 .same) (q .0), stored-length s, s .past, stored-length t, t .past))
 
 same-length : tie.Need-same-length
 same-length c = search needs
 
 returns : tie.Need-returns
 returns c =
-    let q = c .before .before .before .before .before .before .before .before .before .before .before .before .before .before .before .pre in
-    let ds = c .before .before .before .before .before .before .before .before .before .before .before .before .before .before .before .args .docs .now in
-    let ss = c .before .before .before .before .before .before .before .before .before .before .before .before .before .before .before .args .scores .now in
-    stored-as (sym (body-cons ds ss (q .1 .same) (q .0)))
-    (stored-append (c .before .before .before .before .before .before .before .before .put2 .ensures) (rw (part-end 1 ds, part-end 1 ss) at (c .before .before .put-later .ensures)))
+    let a = c .before .before .before .before .before .before .before .before .before .before .before .before .before .before .before .before .before .before .before .args in
+    let q = c .before .before .before .before .before .before .before .before .before .before .before .before .before .before .before .before .before .before .before .pre in
+    let t = rw (part-end 1 (a .docs .now), part-end 1 (a .scores .now)) at (c .before .before .before .before .before .before .put-later .ensures) in
+    stored-as (sym (body-cons (a .strip) (a .docs .now) (a .scores .now) (q .1 .same) (q .0))) (stored-append (stored-append (c .before .before .before .before .before .before .before .before .before .before .before .before .put-in-turn .ensures) t) (c .before .before .put-strip .ensures))
 
 pub put-body-spec : {M : Type 1} → statement M
 put-body-spec =
@@ -65,7 +70,7 @@ put-body-spec =
     (tie.spec
     shared-slice-read-first
     shared-slice-read-s
-    put2-requires
+    put-in-turn-requires
     sub-put-later
     part-put-later-start
     part-put-later-end
@@ -73,5 +78,6 @@ put-body-spec =
     part-put-later-start-2
     part-put-later-end-2
     put-later-requires
+    put-strip-requires
     same-length
     returns)

@@ -33,7 +33,7 @@ be1-requires c κs = search needs
 returns : tie.Need-returns
 returns c =
     let a = c .before .before .before .before .before .args in
-    rw (c .before .before .before .be3 .ensures, c .before .before .be32 .ensures, c .before .be2 .ensures, c .be1 .ensures) (sym (sum-numbers (now (a .s)) (a .at)))
+    rw (c .before .before .before .be3 .ensures, c .before .before .be32 .ensures, c .before .be2 .ensures, c .be1 .ensures) (sym (sum-numbers (now (a .s)) (a .at) (a .strip)))
 
 pub summary-in-spec : {M : Type 1} → statement M
 summary-in-spec =

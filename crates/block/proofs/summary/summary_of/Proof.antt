@@ -21,14 +21,14 @@ shared-slice-read-greatest c = search needs
 top-of-requires : tie.Need-top-of-requires
 top-of-requires c κs = search needs
 
-cast-t12 : tie.Need-cast-t12
-cast-t12 c = search needs
+cast-t13 : tie.Need-cast-t13
+cast-t13 c = search needs
 
 returns : tie.Need-returns
 returns c =
     let a = c .before .before .before .before .before .args in
     let q = c .before .before .before .before .before .pre in
-    rw (c .top-of .ensures) (sym (summary-of (now (a .docs)) (now (a .scores)) (q .2) (q .0)))
+    rw (c .top-of .ensures) (sym (summary-of (a .strip) (now (a .docs)) (now (a .scores)) (q .2) (q .0)))
 
 pub summary-of-spec : {M : Type 1} → statement M
 summary-of-spec =
@@ -39,5 +39,5 @@ summary-of-spec =
     mul-greatest
     shared-slice-read-greatest
     top-of-requires
-    cast-t12
+    cast-t13
     returns)

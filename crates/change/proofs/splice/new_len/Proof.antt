@@ -10,7 +10,7 @@ use Rattle.change.proofs.splice.new_len.Tie as tie
 returns : tie.Need-returns
 returns c =
     let b = c .before .before .before in
-    λ t. omega (arith, ap length (new-none t (now (b .args .docs)) (now (b .args .scores)) (c .if1 .taken)))
+    λ strip t. omega (arith, ap length (new-none strip t (now (b .args .docs)) (now (b .args .scores)) (c .if1 .taken)))
 
 list-len-requires : tie.Need-list-len-requires
 list-len-requires c κs =
@@ -20,7 +20,7 @@ list-len-requires c κs =
 returns-2 : tie.Need-returns-2
 returns-2 c =
     let b = c .before .before .before .before in
-    λ t. c .list-len .ensures t ∙ sym (ap length (new-some t (now (b .args .docs)) (now (b .args .scores)) (b .pre .same) (c .before .if1 .left)))
+    λ strip t. c .list-len .ensures strip t ∙ sym (ap length (new-some strip t (now (b .args .docs)) (now (b .args .scores)) (b .pre .same) (c .before .if1 .left)))
 
 pub new-len-spec : {M : Type 1} → statement M
 new-len-spec = tie.close (tie.spec returns list-len-requires returns-2)

@@ -20,8 +20,8 @@ add-total : tie.Need-add-total
 add-total c =
     let b = c .before .before .before .before .before in
     let a = b .args in
-    let mid = packedBytes (a .term) (postings (now (a .docs)) (now (a .scores))) in
-    omega (arith, c .new-len .ensures (a .term), new-small (a .term) (now (a .docs)) (now (a .scores)), b .pre .0, b .pre .1, b .pre .2)
+    let mid = packedBytes (a .strip) (a .term) (postings (now (a .docs)) (now (a .scores))) in
+    omega (arith, c .new-len .ensures (a .strip) (a .term), new-small (a .strip) (a .term) (now (a .docs)) (now (a .scores)), b .pre .0, b .pre .1, b .pre .2)
 
 sub-total : tie.Need-sub-total
 sub-total c = search needs
@@ -30,23 +30,23 @@ add-total-2 : tie.Need-add-total-2
 add-total-2 c =
     let b = c .before .before .before .before .before in
     let a = b .args in
-    let mid = packedBytes (a .term) (postings (now (a .docs)) (now (a .scores))) in
-    omega (arith, c .new-len .ensures (a .term), new-small (a .term) (now (a .docs)) (now (a .scores)), b .pre .0, b .pre .1, b .pre .2)
+    let mid = packedBytes (a .strip) (a .term) (postings (now (a .docs)) (now (a .scores))) in
+    omega (arith, c .new-len .ensures (a .strip) (a .term), new-small (a .strip) (a .term) (now (a .docs)) (now (a .scores)), b .pre .0, b .pre .1, b .pre .2)
 
 returns : tie.Need-returns
 returns c =
     let b = c .before .before .before .before .before .before in
     let a = b .args in
-    let mid = packedBytes (a .term) (postings (now (a .docs)) (now (a .scores))) in
-    gives-refused (now (a .out)) (splice-large (now (a .s)) (a .at) (a .next) mid (b .pre .0) (b .pre .1) (length (now (a .out))) (omega (arith, splice-length (now (a .s)) (a .at) (a .next) mid (b .pre .0) (b .pre .1), c .before .new-len .ensures (a .term), c .if1 .taken)))
+    let mid = packedBytes (a .strip) (a .term) (postings (now (a .docs)) (now (a .scores))) in
+    gives-refused (now (a .out)) (splice-large (now (a .s)) (a .at) (a .next) mid (b .pre .0) (b .pre .1) (length (now (a .out))) (omega (arith, splice-length (now (a .s)) (a .at) (a .next) mid (b .pre .0) (b .pre .1), c .before .new-len .ensures (a .strip) (a .term), c .if1 .taken)))
 
 returns-2 : tie.Need-returns-2
 returns-2 c =
     let b = c .before .before .before .before .before .before .before in
     let a = b .args in
-    let mid = packedBytes (a .term) (postings (now (a .docs)) (now (a .scores))) in
+    let mid = packedBytes (a .strip) (a .term) (postings (now (a .docs)) (now (a .scores))) in
     let size = splice-length (now (a .s)) (a .at) (a .next) mid (b .pre .0) (b .pre .1) in
-    let n = c .before .before .new-len .ensures (a .term) in
+    let n = c .before .before .new-len .ensures (a .strip) (a .term) in
     gives-refused (now (a .out)) (splice-tight (now (a .s)) (a .at) (a .next) mid (b .pre .0) (b .pre .1) (length (now (a .out))) (omega (arith, c .before .if1 .left)) (omega (arith, c .if2 .taken)))
 
 copy-requires : tie.Need-copy-requires
@@ -56,20 +56,20 @@ put-new-requires : tie.Need-put-new-requires
 put-new-requires c κs =
     let b = c .before .before .before .before .before .before .before .before .before .before .before .before in
     let a = b .args in
-    let mid = packedBytes (a .term) (postings (now (a .docs)) (now (a .scores))) in
+    let mid = packedBytes (a .strip) (a .term) (postings (now (a .docs)) (now (a .scores))) in
     let k = c .before .before .before .copy .ensures in
-    let n = c .before .before .before .before .before .before .before .new-len .ensures (a .term) in
+    let n = c .before .before .before .before .before .before .before .new-len .ensures (a .strip) (a .term) in
     (b .pre .3, omega (arith, k .past, stored-length k, up-length (a .at) (now (a .s)) 0 (omega (arith, b .pre .0, b .pre .1)), c .before .before .before .before .before .if2 .left))
 
 copy-requires-2 : tie.Need-copy-requires-2
 copy-requires-2 c κs =
     let b = c .before .before .before .before .before .before .before .before .before .before .before .before .before .before .before .before in
     let a = b .args in
-    let mid = packedBytes (a .term) (postings (now (a .docs)) (now (a .scores))) in
+    let mid = packedBytes (a .strip) (a .term) (postings (now (a .docs)) (now (a .scores))) in
     let k = c .before .before .before .before .before .before .before .copy .ensures in
     let p = c .before .before .before .put-new .ensures in
-    let n = c .before .before .before .before .before .before .before .before .before .before .before .new-len .ensures (a .term) in
-    (b .pre .1, omega arith, omega (arith, k .past, stored-length k, p .past, stored-length p, up-length (a .at) (now (a .s)) 0 (omega (arith, b .pre .0, b .pre .1)), c .before .before .before .before .before .before .before .before .before .if2 .left))
+    let n = c .before .before .before .before .before .before .before .before .before .before .before .new-len .ensures (a .strip) (a .term) in
+    (b .pre .1, omega arith, omega (arith, k .past, stored-length k, p .past, stored-length {v = mid} p, up-length (a .at) (now (a .s)) 0 (omega (arith, b .pre .0, b .pre .1)), c .before .before .before .before .before .before .before .before .before .if2 .left))
 
 same-length : tie.Need-same-length
 same-length c = search needs
@@ -78,9 +78,9 @@ returns-3 : tie.Need-returns-3
 returns-3 c =
     let b = c .before .before .before .before .before .before .before .before .before .before .before .before .before .before .before .before .before .before .before in
     let a = b .args in
-    let mid = packedBytes (a .term) (postings (now (a .docs)) (now (a .scores))) in
+    let mid = packedBytes (a .strip) (a .term) (postings (now (a .docs)) (now (a .scores))) in
     let size = splice-length (now (a .s)) (a .at) (a .next) mid (b .pre .0) (b .pre .1) in
-    let n = c .before .before .before .before .before .before .before .before .before .before .before .before .before .before .new-len .ensures (a .term) in
+    let n = c .before .before .before .before .before .before .before .before .before .before .before .before .before .before .new-len .ensures (a .strip) (a .term) in
     let fits : length (spliced (now (a .s)) (a .at) (a .next) mid) ≤ length (now (a .out)) = omega (arith, c .before .before .before .before .before .before .before .before .before .before .before .before .if2 .left) in
     gives-done (splice-fits (now (a .s)) (a .at) (a .next) mid (b .pre .0) (b .pre .1) (length (now (a .out))) (omega (arith, c .before .before .before .before .before .before .before .before .before .before .before .before .before .if1 .left)) fits) fits
     (splice-stored (now (a .s)) (a .at) (a .next) mid (b .pre .0) (b .pre .1) (c .before .before .before .before .before .before .before .before .before .before .copy .ensures) (c .before .before .before .before .before .before .put-new .ensures) (c .before .before .copy2 .ensures))

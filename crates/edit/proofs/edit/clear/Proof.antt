@@ -10,7 +10,7 @@ use Rattle.shelf.specs.declared.check.Checked.the-variants.{Sound, Fault}
 use Rattle.list.proofs.Faults.{gives-refused}
 use Rattle.change.specs.Edits.{Clear}
 use Rattle.change.specs.Bytes.{inRange}
-use Rattle.edit.proofs.Sittings.{judged-lists}
+use Rattle.change.proofs.Pieces.{judged-lists}
 use Rattle.edit.proofs.Entries.{edited-range, edited-sound, edited-fault}
 use Rattle.edit.proofs.edit.clear.Statement.{statement}
 use Rattle.edit.proofs.edit.clear.Tie as tie

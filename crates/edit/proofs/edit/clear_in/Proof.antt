@@ -6,7 +6,8 @@ use lib.ListN.{length}
 use Rattle.model.proofs.Lists.{Bytes}
 use Rattle.shelf.specs.Check.{checked}
 use Rattle.list.proofs.Faults.{gives-refused}
-use Rattle.edit.proofs.Sittings.{judged-lists, Sits, sits, without-room, clear-chain, cleared-fit, runs-placeable, clear-refuses, clear-gives}
+use Rattle.change.proofs.Pieces.{judged-lists}
+use Rattle.edit.proofs.Sittings.{Sits, sits, without-room, clear-chain, cleared-fit, runs-placeable, clear-refuses, clear-gives}
 use Rattle.edit.proofs.edit.clear_in.Statement.{statement}
 use Rattle.edit.proofs.edit.clear_in.Tie as tie
 

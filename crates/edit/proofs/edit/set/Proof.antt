@@ -11,7 +11,7 @@ use Rattle.shelf.specs.declared.check.Checked.the-variants.{Sound, Fault}
 use Rattle.list.proofs.Faults.{gives-refused}
 use Rattle.change.specs.Edits.{Set}
 use Rattle.change.specs.Bytes.{inRange}
-use Rattle.edit.proofs.Sittings.{judged-lists}
+use Rattle.change.proofs.Pieces.{judged-lists}
 use Rattle.edit.proofs.Entries.{edited-range, edited-sound, edited-fault, set-docid-out, set-score-out, set-in-range}
 use Rattle.edit.proofs.edit.set.Statement.{statement}
 use Rattle.edit.proofs.edit.set.Tie as tie

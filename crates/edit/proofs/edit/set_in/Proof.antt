@@ -5,7 +5,8 @@ use borrow.Author.Needs.{needs}
 use lib.ListN.{length}
 use Rattle.model.proofs.Lists.{Bytes}
 use Rattle.shelf.specs.Check.{checked}
-use Rattle.edit.proofs.Sittings.{judged-lists, Sits, sits, without-room, insert-room, set-chain, set-fits, runs-placeable, set-gives}
+use Rattle.change.proofs.Pieces.{judged-lists}
+use Rattle.edit.proofs.Sittings.{Sits, sits, without-room, insert-room, set-chain, set-fits, runs-placeable, set-gives}
 use Rattle.edit.proofs.edit.set_in.Statement.{statement}
 use Rattle.edit.proofs.edit.set_in.Tie as tie
 

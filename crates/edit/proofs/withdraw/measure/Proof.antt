@@ -14,8 +14,7 @@ use Rattle.shelf.specs.declared.walk.ListRead.the-variants.{Is, Not}
 use Rattle.change.specs.Seat.{Wide}
 use Rattle.edit.specs.Left.{leftBytes}
 use Rattle.change.proofs.Seats.{list-onward}
-use Rattle.edit.proofs.Sittings.{judged-lists}
-use Rattle.change.proofs.Pieces.{checked-sound}
+use Rattle.change.proofs.Pieces.{checked-sound, judged-lists}
 use Rattle.edit.proofs.Lefts.{list-starts, left-small, Adding, add-start, add-end, add-never, add-goes, add-on}
 use Rattle.edit.proofs.withdraw.measure.Statement.{statement}
 use Rattle.edit.proofs.withdraw.measure.Tie as tie

@@ -8,7 +8,8 @@ use mathlib.Core.List.{List}
 use Prim.Native.Nat.{ℕ}
 use lib.ListN.{length}
 use Rattle.model.proofs.Storing.{stored-as}
-use Rattle.edit.proofs.Lefts.{left-sought, left-held, left-runs, left-may, left-new, left-as-was, left-anew, kept-room}
+use Rattle.edit.proofs.Sittings.{count-some}
+use Rattle.edit.proofs.Lefts.{left-sought, left-held, left-runs, left-may, left-as-was, left-anew, kept-room}
 use Rattle.edit.proofs.withdraw.put_left.Statement.{statement}
 use Rattle.edit.proofs.withdraw.put_left.Tie as tie
 
@@ -40,6 +41,14 @@ without-requires c κs =
     let r = left-held (f .before .before .before .before .before .before .before .before .before .pre .0) (f .fill .ensures) in
     (r .roomy, r .wide)
 
+strip-of-requires : tie.Need-strip-of-requires
+strip-of-requires c κs =
+    let w = c .before .before .before .before in
+    let f = w .before .before .before .before .before .before .before in
+    let b = f .before .before .before .before .before .before .before .before .before in
+    let z = b .pre .0 in
+    (count-some (now (b .args .s)) (b .args .list .at) (b .args .list .count) (z .may .some), omega (arith, z .fills .ready .room))
+
 sub-put-new : tie.Need-sub-put-new
 sub-put-new c = search needs
 
@@ -48,7 +57,7 @@ part-put-new-start c = omega arith
 
 part-put-new-end : tie.Need-part-put-new-end
 part-put-new-end c =
-    let w = c .before .before .before .before .before .before in
+    let w = c .before .before .before .before .before .before .before in
     let f = w .before .before .before .before .before .before .before in
     left-runs (f .before .before .before .before .before .before .before .before .before .pre .0) (f .fill .ensures) (w .without .ensures) .roomy
 
@@ -60,18 +69,19 @@ part-put-new-start-2 c = omega arith
 
 part-put-new-end-2 : tie.Need-part-put-new-end-2
 part-put-new-end-2 c =
-    let w = c .before .before .before .before .before .before .before .before in
+    let w = c .before .before .before .before .before .before .before .before .before in
     let f = w .before .before .before .before .before .before .before in
     left-runs (f .before .before .before .before .before .before .before .before .before .pre .0) (f .fill .ensures) (w .without .ensures) .wide
 
 put-new-requires : tie.Need-put-new-requires
 put-new-requires c κs =
-    let w = c .before .before .before .before .before .before .before .before .before in
+    let o = c .before .before .before .before .before in
+    let w = o .before .before .before .before .before in
     let f = w .before .before .before .before .before .before .before in
     let i = f .before .before .before in
     let b = f .before .before .before .before .before .before .before .before .before in
     let h = sym (i .before .holds .ensures) ∙ not-false _ (i .if1 .left) in
-    let e = left-new (b .pre .0) (f .fill .ensures) (w .without .ensures) (b .args .list .term) ∙ sym (left-anew (now (b .args .s)) (b .args .list) (b .args .d) h) in
+    let e = left-anew (b .pre .0) (f .fill .ensures) (w .without .ensures) (o .strip-of .result) (o .strip-of .ensures) h in
     (left-may (b .pre .0) (f .fill .ensures) (w .without .ensures), omega (arith, b .pre .1, ap (λ (x : List ℕ). length x) e))
 
 same-length-2 : tie.Need-same-length-2
@@ -85,12 +95,13 @@ same-length-4 c = search needs
 
 returns-2 : tie.Need-returns-2
 returns-2 c =
-    let w = c .before .before .before .before .before .before .before .before .before .before .before .before in
+    let o = c .before .before .before .before .before .before .before .before in
+    let w = o .before .before .before .before .before in
     let f = w .before .before .before .before .before .before .before in
     let i = f .before .before .before in
     let b = f .before .before .before .before .before .before .before .before .before in
     let h = sym (i .before .holds .ensures) ∙ not-false _ (i .if1 .left) in
-    stored-as (left-new (b .pre .0) (f .fill .ensures) (w .without .ensures) (b .args .list .term) ∙ sym (left-anew (now (b .args .s)) (b .args .list) (b .args .d) h)) (c .before .before .put-new .ensures)
+    stored-as (left-anew (b .pre .0) (f .fill .ensures) (w .without .ensures) (o .strip-of .result) (o .strip-of .ensures) h) (c .before .before .put-new .ensures)
 
 pub put-left-spec : {M : Type 1} → statement M
 put-left-spec =
@@ -102,6 +113,7 @@ put-left-spec =
     returns
     fill-requires
     without-requires
+    strip-of-requires
     sub-put-new
     part-put-new-start
     part-put-new-end

@@ -5,18 +5,18 @@ use native.Mathlib.Omega.{arith}
 use lib.ListN.{length}
 use Rattle.model.specs.Post.{postings}
 use Rattle.model.proofs.Posts.{from}
-use Rattle.model.proofs.Storing.{Rest, rest-start, rest-turn, rest-end}
+use Rattle.model.proofs.Storing.{Rest, rest-start, rest-end}
 use Rattle.list.specs.Write.{packed, bodiesBytes}
-use Rattle.list.proofs.Packing.{Turn, turn, bodies-turn, bodies-room, bodies-end}
+use Rattle.list.proofs.Packing.{Turn, turn, bodies-room, bodies-on, bodies-end}
 use Rattle.list.proofs.write.put_bodies.Statement.{statement}
 use Rattle.list.proofs.write.put_bodies.Tie as tie
 
 abbrev Inv-loop : tie.InvT-loop
-Inv-loop out₀ at docs scores j₀ a₀ out j a =
-    (a ≤ length docs) × Rest out₀ out at j (bodiesBytes (packed 64 (postings docs scores))) (bodiesBytes (packed 64 (from a docs scores)))
+Inv-loop out₀ at strip docs scores j₀ a₀ out j a =
+    (a ≤ length docs) × Rest out₀ out at j (bodiesBytes strip (packed 64 (postings docs scores))) (bodiesBytes strip (packed 64 (from a docs scores)))
 
 abbrev μ-loop : tie.MeasureT-loop
-μ-loop out₀ at docs scores j₀ a₀ out j a = length docs - a
+μ-loop out₀ at strip docs scores j₀ a₀ out j a = length docs - a
 
 -- the block of a turn
 here : (c : tie.After-block-end Inv-loop μ-loop) → Turn (c .before .before .before .before .before .before .args .docs .now) (c .before .before .before .before .before .before .args .scores .now) (c .before .before .loop .a) (c .block-end .result)
@@ -56,7 +56,7 @@ put-body-field-requires : tie.Need-put-body-field-requires Inv-loop μ-loop
 put-body-field-requires c κs =
     let b = c .before .before .before in
     let t = here b in
-    (t .some, t .few, t .even, bodies-room t (b .before .before .loop .inv .1) (b .before .before .before .before .before .before .pre .1))
+    (t .some, t .few, t .even, bodies-room (b .before .before .before .before .before .before .args .strip) t (b .before .before .loop .inv .1) (b .before .before .before .before .before .before .pre .1))
 
 loop-less : tie.Need-loop-less Inv-loop μ-loop
 loop-less c = let t = here (c .before .before .before .before .before .before) in omega (arith, t .onward, t .within)
@@ -65,7 +65,7 @@ loop-again : tie.Need-loop-again Inv-loop μ-loop
 loop-again c =
     let b = c .before .before .before .before .before .before in
     let t = here b in
-    (t .within, rest-turn _ _ (bodies-turn t) (b .before .before .loop .inv .1) (c .before .before .put-body-field .ensures))
+    (t .within, bodies-on (b .before .before .before .before .before .before .args .strip) t (b .before .before .loop .inv .1) (c .before .before .put-body-field .ensures))
 
 same-length : tie.Need-same-length Inv-loop μ-loop
 same-length c = search needs
@@ -73,7 +73,7 @@ same-length c = search needs
 returns : tie.Need-returns Inv-loop μ-loop
 returns c =
     let a = c .before .before .before .before .before .args in
-    rest-end (bodies-end (c .before .loop .a) (a .docs .now) (a .scores .now) (c .loop-test .left)) (c .before .loop .inv .1)
+    rest-end (bodies-end (a .strip) (c .before .loop .a) (a .docs .now) (a .scores .now) (c .loop-test .left)) (c .before .loop .inv .1)
 
 pub put-bodies-spec : {M : Type 1} → statement M
 put-bodies-spec =

@@ -30,20 +30,20 @@ cast-put-header c =
 put-header-requires : tie.Need-put-header-requires
 put-header-requires c κs =
     let b = c .before .before .before .before in
-    omega (arith, list-room (b .args .term) (postings (b .args .docs .now) (b .args .scores .now)), b .pre .1)
+    omega (arith, list-room (b .args .strip) (b .args .term) (postings (b .args .docs .now) (b .args .scores .now)), b .pre .1)
 
 put-summaries-requires : tie.Need-put-summaries-requires
 put-summaries-requires c κs =
     let b = c .before .before .before .before .before .before .before .before in
     let h = c .before .before .before .put-header .ensures in
-    (b .pre .0, omega (arith, list-room (b .args .term) (postings (b .args .docs .now) (b .args .scores .now)), b .pre .1, header-past (b .args .term) ((length (b .args .docs .now) + 100 - 1) / 100) h, stored-length h))
+    (b .pre .0, omega (arith, list-room (b .args .strip) (b .args .term) (postings (b .args .docs .now) (b .args .scores .now)), b .pre .1, header-past (b .args .term) ((length (b .args .docs .now) + 100 - 1) / 100) h, stored-length h))
 
 put-bodies-requires : tie.Need-put-bodies-requires
 put-bodies-requires c κs =
     let b = c .before .before .before .before .before .before .before .before .before .before .before .before in
     let h = c .before .before .before .before .before .before .before .put-header .ensures in
     let s = c .before .before .before .put-summaries .ensures in
-    (b .pre .0, omega (arith, list-room (b .args .term) (postings (b .args .docs .now) (b .args .scores .now)), b .pre .1, header-past (b .args .term) ((length (b .args .docs .now) + 100 - 1) / 100) h, stored-length h, s .past, stored-length s))
+    (b .pre .0, omega (arith, list-room (b .args .strip) (b .args .term) (postings (b .args .docs .now) (b .args .scores .now)), b .pre .1, header-past (b .args .term) ((length (b .args .docs .now) + 100 - 1) / 100) h, stored-length h, s .past, stored-length s))
 
 same-length : tie.Need-same-length
 same-length c = search needs
@@ -53,7 +53,7 @@ returns c =
     let b = c .before .before .before .before .before .before .before .before .before .before .before .before .before .before .before in
     let ps = postings (b .args .docs .now) (b .args .scores .now) in
     let n = count-of (b .args .docs .now) (b .args .scores .now) (b .pre .0 .same) in
-    stored-as (list-parts (b .args .term) _ ps (omega (arith, n, packed-count 64 ps (b .pre .0 .may .few))))
+    stored-as (list-parts (b .args .strip) (b .args .term) _ ps (omega (arith, n, packed-count 64 ps (b .pre .0 .may .few))))
     (stored-append (c .before .before .before .before .before .before .before .before .before .before .put-header .ensures)
     (stored-append (c .before .before .before .before .before .before .put-summaries .ensures) (c .before .before .put-bodies .ensures)))
 

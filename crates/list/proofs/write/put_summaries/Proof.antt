@@ -14,11 +14,11 @@ use Rattle.list.proofs.write.put_summaries.Statement.{statement}
 use Rattle.list.proofs.write.put_summaries.Tie as tie
 
 abbrev Inv-loop : tie.InvT-loop
-Inv-loop out₀ at docs scores j₀ a₀ out j a =
-    (a ≤ length docs) × Rest out₀ out at j (sumsBytes (packed 64 (postings docs scores))) (sumsBytes (packed 64 (from a docs scores)))
+Inv-loop out₀ at strip docs scores j₀ a₀ out j a =
+    (a ≤ length docs) × Rest out₀ out at j (sumsBytes strip (packed 64 (postings docs scores))) (sumsBytes strip (packed 64 (from a docs scores)))
 
 abbrev μ-loop : tie.MeasureT-loop
-μ-loop out₀ at docs scores j₀ a₀ out j a = length docs - a
+μ-loop out₀ at strip docs scores j₀ a₀ out j a = length docs - a
 
 -- the block of a turn
 here : (c : tie.After-block-end Inv-loop μ-loop) → Turn (c .before .before .before .before .before .before .args .docs .now) (c .before .before .before .before .before .before .args .scores .now) (c .before .before .loop .a) (c .block-end .result)
@@ -60,9 +60,10 @@ summary-of-requires c κs = let t = here (c .before .before) in (t .some, t .few
 put-summary-requires : tie.Need-put-summary-requires Inv-loop μ-loop
 put-summary-requires c κs =
     let t = here (c .before .before .before .before) in
-    let f = fits-turn t (c .before .summary-of .ensures) in
     let b = c .before .before .before .before .before .before in
-    (f .0, f .1, sums-room t (b .loop .inv .1) (b .before .before .before .before .pre .1))
+    let strip = b .before .before .before .before .args .strip in
+    let f = fits-turn strip t (c .before .summary-of .ensures) in
+    (f .0, f .1, sums-room strip t (b .loop .inv .1) (b .before .before .before .before .pre .1))
 
 loop-less : tie.Need-loop-less Inv-loop μ-loop
 loop-less c = let t = here (c .before .before .before .before .before .before .before) in omega (arith, t .onward, t .within)
@@ -71,7 +72,7 @@ loop-again : tie.Need-loop-again Inv-loop μ-loop
 loop-again c =
     let t = here (c .before .before .before .before .before .before .before) in
     let i = c .before .before .before .before .before .before .before .before .before .loop .inv .1 in
-    (t .within, rest-turn _ _ (sums-turn t) i (stored-as (ap sumBytes (c .before .before .before .before .summary-of .ensures)) (c .before .before .put-summary .ensures)))
+    (t .within, rest-turn _ _ (sums-turn (c .before .before .before .before .before .before .before .before .before .before .before .before .before .args .strip) t) i (stored-as (ap sumBytes (c .before .before .before .before .summary-of .ensures)) (c .before .before .put-summary .ensures)))
 
 same-length : tie.Need-same-length Inv-loop μ-loop
 same-length c = search needs
@@ -79,7 +80,7 @@ same-length c = search needs
 returns : tie.Need-returns Inv-loop μ-loop
 returns c =
     let a = c .before .before .before .before .before .args in
-    rest-end (sums-end (c .before .loop .a) (a .docs .now) (a .scores .now) (c .loop-test .left)) (c .before .loop .inv .1)
+    rest-end (sums-end (a .strip) (c .before .loop .a) (a .docs .now) (a .scores .now) (c .loop-test .left)) (c .before .loop .inv .1)
 
 pub put-summaries-spec : {M : Type 1} → statement M
 put-summaries-spec =

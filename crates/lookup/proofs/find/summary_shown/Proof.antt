@@ -34,27 +34,42 @@ has c = sym (c .before .has-block .ensures) ∙ not-false (c .before .has-block 
 fits : (c : tie.Else1) → let a = c .before .before .before .before .before .before .args in (a .j < c .before .before .before .shown .given .0 .0 .count) × (bodiesFrom (c .before .before .before .shown .given .0 .0) ≤ length (now (a .s)))
 fits c = let a = c .before .before .before .before .before .before .args in has-facts (now (a .s)) (c .before .before .before .shown .given .0 .0) (a .j) (has c)
 
+add-is-strip : tie.Need-add-is-strip
+add-is-strip c = omega (arith, fits (c .before) .1)
+
+cast-is-strip : tie.Need-cast-is-strip
+cast-is-strip c = search needs
+
+mul-is-strip : tie.Need-mul-is-strip
+mul-is-strip c = search needs
+
+add-is-strip-2 : tie.Need-add-is-strip-2
+add-is-strip-2 c = omega (arith, fits (c .before .before) .1)
+
+is-strip-requires : tie.Need-is-strip-requires
+is-strip-requires c κs = search needs
+
 add-summary-in : tie.Need-add-summary-in
-add-summary-in c = omega (arith, fits (c .before) .1)
+add-summary-in c = omega (arith, fits (c .before .before .before .before) .1)
 
 mul-summary-in : tie.Need-mul-summary-in
-mul-summary-in c = omega (arith, fits (c .before) .0)
+mul-summary-in c = omega (arith, fits (c .before .before .before .before) .0)
 
 add-summary-in-2 : tie.Need-add-summary-in-2
-add-summary-in-2 c = omega (arith, fits (c .before) .0, fits (c .before) .1)
+add-summary-in-2 c = omega (arith, fits (c .before .before .before .before) .0, fits (c .before .before .before .before) .1)
 
 summary-in-requires : tie.Need-summary-in-requires
-summary-in-requires c κs = omega (arith, fits (c .before) .0, fits (c .before) .1)
+summary-in-requires c κs = omega (arith, fits (c .before .before .before .before) .0, fits (c .before .before .before .before) .1)
 
 enum-known-shown-2 : tie.Need-enum-known-shown-2
 enum-known-shown-2 c = search needs
 
 returns-2 : tie.Need-returns-2
 returns-2 c =
-    let a = c .before .before .before .before .before .before .before .before .args in
-    let p = c .before .before .before .before .before .shown .given .0 .0 in
+    let a = c .before .before .before .before .before .before .before .before .before .before .before .args in
+    let p = c .before .before .before .before .before .before .before .before .shown .given .0 .0 in
     let f : a .shown ≡ shown.List p = cc in
-    rw (f, summary-here (now (a .s)) p (a .j) (has (c .before .before))) (rw (c .summary-in .ensures))
+    rw (f, summary-here (now (a .s)) p (a .j) (has (c .before .before .before .before .before))) (rw (c .summary-in .ensures, c .before .before .is-strip .ensures))
 
 returns-3 : tie.Need-returns-3
 returns-3 c =
@@ -70,6 +85,11 @@ summary-shown-spec =
     enum-known-shown
     has-block-requires
     returns
+    add-is-strip
+    cast-is-strip
+    mul-is-strip
+    add-is-strip-2
+    is-strip-requires
     add-summary-in
     mul-summary-in
     add-summary-in-2

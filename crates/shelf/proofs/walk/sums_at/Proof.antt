@@ -31,7 +31,7 @@ enum-known-m c = search needs
 
 -- the summary that the call found
 found : (c : tie.After-known-told Inv-loop μ-loop) →
-    (isSum (drop (c .before .before .before .before .before .loop .p) (now (c .before .before .before .before .before .before .before .args .s))) ≡ true) × (sumOf (drop (c .before .before .before .before .before .loop .p) (now (c .before .before .before .before .before .before .before .args .s))) ≡ c .before .m .given .0 .0)
+    (isSum (drop (c .before .before .before .before .before .loop .p) (now (c .before .before .before .before .before .before .before .args .s))) ≡ true) × (sumOf false (drop (c .before .before .before .before .before .loop .p) (now (c .before .before .before .before .before .before .before .args .s))) ≡ c .before .m .given .0 .0)
 found c =
     let f : sumAt (now (c .before .before .before .before .before .before .before .args .s)) (c .before .before .before .before .before .loop .p) ≡ Sum (c .before .m .given .0 .0) = cc in
     sum-found (now (c .before .before .before .before .before .before .before .args .s)) (c .before .before .before .before .before .loop .p) (c .before .m .given .0 .0) f

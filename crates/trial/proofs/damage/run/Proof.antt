@@ -21,6 +21,9 @@ loop-holds c = search needs
 change-one-requires : tie.Need-change-one-requires Inv-loop μ-loop
 change-one-requires c κs = search needs
 
+flip-tag-requires : tie.Need-flip-tag-requires Inv-loop μ-loop
+flip-tag-requires c κs = search needs
+
 cut-short-requires : tie.Need-cut-short-requires Inv-loop μ-loop
 cut-short-requires c κs = search needs
 
@@ -51,6 +54,7 @@ run-spec =
     returns
     loop-holds
     change-one-requires
+    flip-tag-requires
     cut-short-requires
     add-i
     loop-less

@@ -7,10 +7,10 @@ use Rattle.trial.proofs.writing.put_blocks.Statement.{statement}
 use Rattle.trial.proofs.writing.put_blocks.Tie as tie
 
 abbrev Inv-loop : tie.InvT-loop
-Inv-loop docids scores size out₀ sums bodies sum₀ body₀ a₀ out sum body a = (length out ≡ length out₀)
+Inv-loop strip docids scores size out₀ sums bodies sum₀ body₀ a₀ out sum body a = (length out ≡ length out₀)
 
 abbrev μ-loop : tie.MeasureT-loop
-μ-loop docids scores size out₀ sums bodies sum₀ body₀ a₀ out sum body a = length docids - a
+μ-loop strip docids scores size out₀ sums bodies sum₀ body₀ a₀ out sum body a = length docids - a
 
 loop-holds : tie.Need-loop-holds Inv-loop μ-loop
 loop-holds c = search needs

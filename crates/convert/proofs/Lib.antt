@@ -1,0 +1,6 @@
+-- The laws of the converter.
+pub mod Layouts
+pub mod Turnings
+pub mod Lists
+pub mod Seatings
+pub mod Leaves

@@ -1,0 +1,2 @@
+-- The converter.
+pub mod Convert
