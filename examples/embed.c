@@ -1,4 +1,4 @@
-/* Writes a list, rescores a sheet, searches, and shows a refusal. From the repository's root:
+/* Writes a list, rescores a sheet, turns the list to strips, searches, and shows a refusal. From the repository's root:
  *     rt staticlib embed && cc -Iinclude examples/embed.c target/staticlib/libembed.a -o target/embed && target/embed */
 #include "tagmurlen.h"
 #include <stdio.h>
@@ -7,18 +7,21 @@ int main(void) {
     const uint8_t query[] = {0x20, 0, 1, 2, 0x21, 0, 5, 0, 0, 0, 7, 10}; /* the best 2 for term 7, weight 10 */
     uint32_t sheets[200];
     uint16_t scores[200];
-    uint8_t first[1024], shelf[1024];
+    uint8_t first[1024], second[1024], shelf[1024];
     uint64_t value = 0;
     for (uint32_t i = 0; i < 200; i++) { /* in two blocks, 1 to 100 and 101 to 200 */
         sheets[i] = i + 1;
         scores[i] = 5;
     }
 
-    uint32_t number = tagmurlen_write_list(7, sheets, 200, scores, 200, first, sizeof first, &value);
+    uint32_t number = tagmurlen_write_list(false, 7, sheets, 200, scores, 200, first, sizeof first, &value);
     printf("written: %u, %llu bytes\n", number, (unsigned long long)value);
 
-    number = tagmurlen_set(first, value, 7, 9, 65535, shelf, sizeof shelf, &value); /* sheet 9 is raised to the top score */
+    number = tagmurlen_set(first, value, 7, 9, 65535, second, sizeof second, &value); /* sheet 9 is raised to the top score */
     printf("rescored: %u, %llu bytes\n", number, (unsigned long long)value);
+
+    number = tagmurlen_convert(second, value, 7, shelf, sizeof shelf, &value); /* in each block all scores stand together now */
+    printf("in strips: %u, %llu bytes\n", number, (unsigned long long)value);
     size_t length = value;
 
     uint32_t found[2], summed[2], firsts[TAGMURLEN_MAX_INTERVALS], ceilings[TAGMURLEN_MAX_INTERVALS];

@@ -9,6 +9,7 @@
 #ifndef TAGMURLEN_H
 #define TAGMURLEN_H
 
+#include <stdbool.h>
 #include <stddef.h>
 #include <stdint.h>
 
@@ -34,7 +35,8 @@ enum tagmurlen_refusal {
     TAGMURLEN_QUERY_WEIGHT = 4,   /* weight 0; at the first such field */
     TAGMURLEN_QUERY_REPEATED = 5, /* term twice; at the second of the first pair to close */
     TAGMURLEN_SHELF_FIELDS = 6,   /* shelf over 1,048,576 bytes (at 0); field missing, unexpected, of wrong length or cut short; terms not rising;
-                                     block count not 1 to 64; 1,025th list; at its tag, or the shelf length where no byte is left */
+                                     block count not 1 to 64; mixed tags in one list, at the first body whose tag is not the first body's;
+                                     1,025th list; at its tag, or the shelf length where no byte is left */
     TAGMURLEN_SUMMARY = 7,        /* wrong summary; at its tag */
     TAGMURLEN_BODY = 8,           /* wrong body; at its tag */
     TAGMURLEN_OUTPUT_SHORT = 9,   /* lent output too short; at 0 */
@@ -61,9 +63,10 @@ uint32_t tagmurlen_check_query(const uint8_t *query, size_t query_len, uint64_t 
 uint32_t tagmurlen_read_list(const uint8_t *shelf, size_t shelf_len, uint32_t term, uint32_t *docids, size_t docids_len,
                              uint16_t *scores, size_t scores_len, uint64_t *value);
 
-/* Writes a list to the front of `out`: 11, 10, 9. Stores how many bytes it wrote. */
-uint32_t tagmurlen_write_list(uint32_t term, const uint32_t *docids, size_t docids_len, const uint16_t *scores, size_t scores_len,
-                              uint8_t *out, size_t out_len, uint64_t *value);
+/* Writes a list to the front of `out`, its bodies tagged 04 if `strip` (all gap numbers of a block, then all its scores), else 03 (each posting's gap
+   number, then its score): 11, 10, 9. Stores how many bytes it wrote, the same for both. */
+uint32_t tagmurlen_write_list(bool strip, uint32_t term, const uint32_t *docids, size_t docids_len, const uint16_t *scores,
+                              size_t scores_len, uint8_t *out, size_t out_len, uint64_t *value);
 
 /* The best k documents of a query, all its lists read, to the front of two runs, docids beside their scores: 1 to 5, 6, 7, 9, 8.
    Stores how many hits there are. The shorter run is the number of rows. */
@@ -81,7 +84,8 @@ uint32_t tagmurlen_search(const uint8_t *query, size_t query_len, const uint8_t 
                           uint32_t *firsts, size_t firsts_len, uint32_t *ceilings, size_t ceilings_len, uint8_t *marks, size_t marks_len,
                           uint64_t *value, uint64_t *intervals, uint64_t *opened, uint64_t *blocks);
 
-/* The edits read one shelf and write another to the front of `out`, which must not overlap it. They store the new shelf's length. */
+/* The edits and the converter read one shelf and write another to the front of `out`, which must not overlap it. They store the new shelf's length.
+   An edit keeps a list's tag, 03 or 04; a new list gets 03. */
 
 /* Adds a posting or replaces its score: 10, 6, 7, 8, 11, 9. */
 uint32_t tagmurlen_set(const uint8_t *shelf, size_t shelf_len, uint32_t term, uint32_t docid, uint16_t score, uint8_t *out,
@@ -93,6 +97,10 @@ uint32_t tagmurlen_clear(const uint8_t *shelf, size_t shelf_len, uint32_t term, 
 
 /* Removes a sheet from every list: 10, 6, 7, 8, 12, 11, 9. */
 uint32_t tagmurlen_withdraw(const uint8_t *shelf, size_t shelf_len, uint32_t docid, uint8_t *out, size_t out_len, uint64_t *value);
+
+/* Turns the list of a term to the other layout, from tag 03 to 04 or from 04 to 03, block by block, changing no posting: 6, 7, 8, 12, 9. The new
+   shelf is as long as the old one. */
+uint32_t tagmurlen_convert(const uint8_t *shelf, size_t shelf_len, uint32_t term, uint8_t *out, size_t out_len, uint64_t *value);
 
 #ifdef __cplusplus
 }

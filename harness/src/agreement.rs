@@ -1,12 +1,13 @@
 //! Tests of the harness itself, on random inputs: what the reference says in two ways must agree, and the benchmarks' measure with it.
 
 use crate::generate;
+use crate::reference::convert::convert;
 use crate::reference::edit::{edit, Edit};
-use crate::reference::list::{pack, read_list, write_list};
+use crate::reference::list::{pack_as, read_list, write_list};
 use crate::reference::prune::{search, Room};
 use crate::reference::rank::rank_all;
 use crate::reference::shelf::{check, walk};
-use crate::reference::{Refusal, MAX_SHELF};
+use crate::reference::{Layout, Refusal, MAX_SHELF};
 use crate::rng::Rng;
 use crate::tuned;
 use std::collections::BTreeMap;
@@ -47,9 +48,11 @@ fn the_measure_agrees_with_the_reference() {
             shelf = generate::damage(rng, &shelf);
         }
         let (docids, scores) = generate::runs(rng);
-        let mut out = vec![0; 30_000];
-        let written = tuned::list::write_list(7, &docids, &scores, &mut out).map(|n| out[..n].to_vec());
-        assert_eq!(written, write_list(7, &docids, &scores, 30_000).map_err(pair), "seed {seed}");
+        for layout in Layout::BOTH {
+            let mut out = vec![0; 30_000];
+            let written = tuned::list::write_list(layout, 7, &docids, &scores, &mut out).map(|n| out[..n].to_vec());
+            assert_eq!(written, write_list(layout, 7, &docids, &scores, 30_000).map_err(pair), "seed {seed}");
+        }
     }
 }
 
@@ -90,39 +93,73 @@ fn the_measures_edits_agree_with_the_reference() {
             assert_eq!(set, edit(Edit::Set(term, docid, score), &shelf, room).map_err(pair), "seed {seed}");
             let withdrawn = tuned::edit::withdraw(&shelf, docid, &mut out).map(|n| out[..n].to_vec());
             assert_eq!(withdrawn, edit(Edit::Withdraw(docid), &shelf, room).map_err(pair), "seed {seed}");
-            shelf = if rng.within(0, 2) == 0 { generate::damage(rng, &shelf) } else { set.unwrap_or(shelf) };
+            let converted = tuned::convert::convert(&shelf, term, &mut out).map(|n| out[..n].to_vec());
+            assert_eq!(converted, convert(&shelf, term, room).map_err(pair), "seed {seed}");
+            shelf = if rng.within(0, 2) == 0 { generate::damage(rng, &shelf) } else { converted.or(set).unwrap_or(shelf) };
         }
     }
 }
 
-/// Edits from the empty shelf: sound, with the postings that the accepted edits add up to, and the bytes of one writing of them.
+/// A list to the other layout and back is as it was; between, the shelf is as long, holds the same and answers alike.
 #[test]
-fn a_history_of_edits_is_one_writing() {
+fn both_layouts_mean_the_same() {
+    for seed in 0..ROUNDS {
+        let rng = &mut Rng::new(seed);
+        let (size, spread) = (generate::size(rng), generate::spread(rng));
+        let shelf = generate::shelf(rng, size, spread);
+        let terms: Vec<u32> = walk(&shelf).expect("sound").iter().map(|l| l.term).collect();
+        let Some(&term) = terms.last() else { continue };
+        let turned = convert(&shelf, term, shelf.len()).expect("there is room");
+        assert_ne!(turned, shelf, "seed {seed}");
+        assert_eq!(convert(&turned, term, shelf.len()), Ok(shelf.clone()), "seed {seed}");
+        assert_eq!(read_list(&turned, term, 6_400, 6_400), read_list(&shelf, term, 6_400, 6_400), "seed {seed}");
+        let query = generate::query(rng, &terms);
+        let room = Room { rows: 100, book: 1025 };
+        assert_eq!(search(&query, &turned, room), search(&query, &shelf, room), "seed {seed}");
+    }
+}
+
+/// What a history adds up to: a list's layout and its postings, by term.
+type Held = BTreeMap<u32, (Layout, BTreeMap<u32, u16>)>;
+
+fn add_up(held: &mut Held, asked: Edit) {
+    match asked {
+        Edit::Set(term, docid, score) => {
+            held.entry(term).or_insert((Layout::Pairs, BTreeMap::new())).1.insert(docid, score);
+        }
+        Edit::Clear(term, docid) => held.get_mut(&term).expect("the edit was accepted").1.retain(|&d, _| d != docid),
+        Edit::Withdraw(docid) => held.values_mut().for_each(|list| list.1.retain(|&d, _| d != docid)),
+    }
+    held.retain(|_, list| !list.1.is_empty());
+}
+
+/// Edits and conversions from the empty shelf: sound, with the postings that the accepted edits add up to, and the bytes of one writing of them.
+#[test]
+fn a_history_is_one_writing() {
     for seed in 0..ROUNDS {
         let rng = &mut Rng::new(seed);
         let mut shelf = Vec::new();
-        let mut held: BTreeMap<u32, BTreeMap<u32, u16>> = BTreeMap::new();
+        let mut held = Held::new();
         for _ in 0..rng.within(1, 60) {
             let (term, docid, score) = (rng.within(1, 4) as u32, rng.within(0, 12) as u32, rng.within(0, 9) as u16);
+            if rng.once_in(6) {
+                let Ok(after) = convert(&shelf, term, MAX_SHELF) else { continue };
+                shelf = after;
+                held.entry(term).and_modify(|list| list.0 = list.0.other());
+                continue;
+            }
             let asked = [Edit::Set(term, docid, score), Edit::Clear(term, docid), Edit::Withdraw(docid)];
             let asked = asked[rng.pick(&[0, 0, 0, 1, 2])];
             let Ok(after) = edit(asked, &shelf, MAX_SHELF) else { continue };
             shelf = after;
-            match asked {
-                Edit::Set(term, docid, score) => {
-                    held.entry(term).or_default().insert(docid, score);
-                }
-                Edit::Clear(term, docid) => held.entry(term).or_default().retain(|&d, _| d != docid),
-                Edit::Withdraw(docid) => held.values_mut().for_each(|list| list.retain(|&d, _| d != docid)),
-            }
-            held.retain(|_, list| !list.is_empty());
+            add_up(&mut held, asked);
         }
-        let writing: Vec<u8> = held.iter().flat_map(|(&t, list)| pack(t, &list.iter().map(|(&d, &s)| (d, s)).collect::<Vec<_>>())).collect();
+        let postings = |list: &BTreeMap<u32, u16>| list.iter().map(|(&d, &s)| (d, s)).collect::<Vec<_>>();
+        let writing: Vec<u8> = held.iter().flat_map(|(&t, (layout, list))| pack_as(*layout, t, &postings(list))).collect();
         assert_eq!(shelf, writing, "seed {seed}");
         assert!(check(&shelf).is_ok(), "seed {seed}");
-        for (&term, list) in &held {
-            let postings: Vec<_> = list.iter().map(|(&d, &s)| (d, s)).collect();
-            assert_eq!(read_list(&shelf, term, 12, 12), Ok(postings), "seed {seed}");
+        for (&term, (_, list)) in &held {
+            assert_eq!(read_list(&shelf, term, 12, 12), Ok(postings(list)), "seed {seed}");
         }
     }
 }

@@ -1,6 +1,7 @@
 //! Measuring: the best of several short runs, taken in turn, so that a busy machine troubles all alike. Figures are ratios within one run.
 
 pub mod searching;
+pub mod strips;
 
 use std::time::Instant;
 

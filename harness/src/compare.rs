@@ -5,7 +5,7 @@ pub mod search;
 use crate::lent::Lent;
 use crate::reference::edit::{self, Edit};
 use crate::reference::rank::{self, Hit};
-use crate::reference::{list, query, shelf, Refusal};
+use crate::reference::{convert, list, query, shelf, Layout, Refusal};
 use std::collections::{BTreeMap, BTreeSet};
 use tagmurlen::raw;
 
@@ -93,11 +93,12 @@ pub fn read_list(t: &mut Tally, bytes: &[u8], term: u32, docid_room: usize, scor
     archive
 }
 
-pub fn write_list(t: &mut Tally, term: u32, docids: &[u32], scores: &[u16], room: usize) -> Answer {
+pub fn write_list(t: &mut Tally, layout: Layout, term: u32, docids: &[u32], scores: &[u16], room: usize) -> Answer {
     let mut out: Lent<u8> = Lent::new(room);
     let run = out.run();
     let archive = call(|value| unsafe {
         raw::tagmurlen_write_list(
+            layout == Layout::Strip,
             term,
             docids.as_ptr(),
             docids.len(),
@@ -108,7 +109,7 @@ pub fn write_list(t: &mut Tally, term: u32, docids: &[u32], scores: &[u16], room
             value,
         )
     });
-    let reference = list::write_list(term, docids, scores, room);
+    let reference = list::write_list(layout, term, docids, scores, room);
     t.answers("write_list", archive, told(&reference, Vec::len));
     t.note("write_list's buffer", out.fault(&reference.unwrap_or_default()));
     archive
@@ -161,4 +162,16 @@ pub fn edit(t: &mut Tally, asked: Edit, bytes: &[u8], room: usize) -> (Answer, V
     let edited = reference.unwrap_or_default();
     t.note("an edit's buffer", out.fault(&edited));
     (archive, edited)
+}
+
+/// The answer, and the shelf that an accepted conversion leaves.
+pub fn convert(t: &mut Tally, bytes: &[u8], term: u32, room: usize) -> (Answer, Vec<u8>) {
+    let mut out: Lent<u8> = Lent::new(room);
+    let run = out.run();
+    let archive = call(|value| unsafe { raw::tagmurlen_convert(bytes.as_ptr(), bytes.len(), term, run.as_mut_ptr(), run.len(), value) });
+    let reference = convert::convert(bytes, term, room);
+    t.answers("convert", archive, told(&reference, Vec::len));
+    let converted = reference.unwrap_or_default();
+    t.note("convert's buffer", out.fault(&converted));
+    (archive, converted)
 }

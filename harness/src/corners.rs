@@ -1,6 +1,7 @@
 //! Corner cases by name, each with the answer that the paper gives, run through the archive and beside the reference.
 
 pub mod search;
+pub mod strips;
 
 use crate::compare::{check, check_query, edit, rank_all, read_list, write_list, Answer, Tally};
 use crate::generate::field_starts;
@@ -9,11 +10,11 @@ use crate::reference::fields::put_field;
 use crate::reference::list::{pack, put_blocks, put_summary};
 use crate::reference::query::put_query;
 use crate::reference::shelf::Summary;
-use crate::reference::{Posting, MAX_DOCID, MAX_SHELF};
+use crate::reference::{Layout, Posting, MAX_DOCID, MAX_SHELF};
 
 /// Every corner. Each compares what it runs with the reference, and with the paper's answer that stands beside it.
 pub fn all(t: &mut Tally) {
-    for (name, corner) in CORNERS.into_iter().chain(search::CORNERS) {
+    for (name, corner) in CORNERS.into_iter().chain(search::CORNERS).chain(strips::CORNERS) {
         t.case = format!("corner '{name}'");
         let before = t.differ;
         corner(t);
@@ -180,9 +181,13 @@ fn first_in_byte_order(t: &mut Tally) {
 
 /// A list of one block with this summary and this body.
 fn one_block(s: Summary, body: &[u8]) -> Vec<u8> {
+    one_block_as(Layout::Pairs, s, body)
+}
+
+fn one_block_as(layout: Layout, s: Summary, body: &[u8]) -> Vec<u8> {
     let mut shelf = vec![1, 0, 5, 0, 0, 0, 7, 1];
     put_summary(&mut shelf, s);
-    put_field(&mut shelf, 3, body);
+    put_field(&mut shelf, layout.tag(), body);
     shelf
 }
 
@@ -251,14 +256,14 @@ fn wrong_bodies(t: &mut Tally) {
 fn posting_counts(t: &mut Tally) {
     for (n, length) in [(1, 25), (100, 322), (101, 339), (6_400, 20_104)] {
         let (docids, scores): (Vec<u32>, Vec<u16>) = run_of(n).into_iter().unzip();
-        let found = write_list(t, 7, &docids, &scores, 30_000);
+        let found = write_list(t, Layout::Pairs, 7, &docids, &scores, 30_000);
         is(t, found, (0, length));
         let found = check(t, &pack(7, &run_of(n)));
         is(t, found, (0, 0));
     }
     let (docids, scores): (Vec<u32>, Vec<u16>) = run_of(6_401).into_iter().unzip();
     for (docids, scores) in [(&docids[..], &scores[..]), (&docids[..], &scores[..1]), (&docids[..1], &scores[..])] {
-        let found = write_list(t, 7, docids, scores, 30_000);
+        let found = write_list(t, Layout::Pairs, 7, docids, scores, 30_000);
         is(t, found, (11, 0));
     }
     // a block of 101 cannot be written; one that says so is a wrong summary
@@ -275,7 +280,7 @@ fn docid_edges(t: &mut Tally) {
                 16_384..=2_097_151 => 3,
                 _ => 4,
             };
-            let found = write_list(t, 7, &docids, &[1, 65_535], 100);
+            let found = write_list(t, Layout::Pairs, 7, &docids, &[1, 65_535], 100);
             is(t, found, (0, 27 + bytes_of_gap));
             let found = check(t, &pack(7, &[(docids[0], 1), (docids[1], 65_535)]));
             is(t, found, (0, 0));
@@ -298,7 +303,7 @@ fn refused_runs(t: &mut Tally) {
         (&[1, 2, 3], &[1, 1, 1], (9, 0)),
     ];
     for (docids, scores, paper) in cases {
-        let found = write_list(t, 7, docids, scores, 30);
+        let found = write_list(t, Layout::Pairs, 7, docids, scores, 30);
         is(t, found, paper);
     }
 }
@@ -307,10 +312,10 @@ fn exact_room(t: &mut Tally) {
     for n in [1, 100, 101, 6_400] {
         let (docids, scores): (Vec<u32>, Vec<u16>) = run_of(n).into_iter().unzip();
         let length = pack(7, &run_of(n)).len();
-        let found = write_list(t, 7, &docids, &scores, length);
+        let found = write_list(t, Layout::Pairs, 7, &docids, &scores, length);
         is(t, found, (0, length as u64));
         for room in [length - 1, 1, 0] {
-            let found = write_list(t, 7, &docids, &scores, room);
+            let found = write_list(t, Layout::Pairs, 7, &docids, &scores, room);
             is(t, found, (9, 0));
         }
     }

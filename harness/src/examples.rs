@@ -1,8 +1,9 @@
 //! The inputs of the folder `examples`, made from the paper's sentences: a query, and behind it a shelf.
 
 use crate::reference::fields::put_field;
-use crate::reference::list::{pack, put_blocks};
+use crate::reference::list::{pack, put_blocks, put_blocks_as};
 use crate::reference::query::put_query;
+use crate::reference::Layout;
 
 pub struct Example {
     pub name: &'static str,
@@ -18,7 +19,12 @@ fn m1_query(k: u8) -> Vec<u8> {
 
 /// "Shelf, 73 bytes"
 fn m1_shelf() -> Vec<u8> {
-    [put_blocks(7, &[&[(2, 5), (4, 3)], &[(9, 1)]]), put_blocks(9, &[&[(4, 4), (6, 2)]])].concat()
+    m1_shelf_as(Layout::Pairs)
+}
+
+/// M1's shelf, its first list in a layout.
+fn m1_shelf_as(layout: Layout) -> Vec<u8> {
+    [put_blocks_as(layout, 7, &[&[(2, 5), (4, 3)], &[(9, 1)]]), put_blocks(9, &[&[(4, 4), (6, 2)]])].concat()
 }
 
 /// M1's shelf with one of its bytes another.
@@ -48,6 +54,7 @@ fn marked() -> Vec<Example> {
             put_blocks(7, &[&[(3, 6)], &[(8, 6)]]),
         ),
         example("m8", "M1's query on the empty shelf", m1_query(1), Vec::new()),
+        example("strip", "M1 with its first list in strips: it prints what M1 prints", m1_query(1), m1_shelf_as(Layout::Strip)),
     ]
 }
 
@@ -78,6 +85,7 @@ fn wrong_shelves() -> Vec<Example> {
         example("r6-tag", "tag 9 where M1's second list begins", m1_query(1), m1_shelf_with(45, 9)),
         example("r6-terms", "list 9 before list 7", m1_query(1), terms_fall),
         example("r6-blocks", "a block count of 65", m1_query(1), m1_shelf_with(7, 65)),
+        example("r6-mixed", "M1's second body tagged 04 behind a first tagged 03", m1_query(1), m1_shelf_with(40, 4)),
         example(
             "r6-query-cut",
             "M1's query cut short in its second term: the whole fields are the query, and 21 is no list",

@@ -1,9 +1,9 @@
 //! Inputs: shelves, valid and damaged; queries; runs of postings with each kind of fault.
 
 use crate::reference::fields::number;
-use crate::reference::list::put_blocks;
+use crate::reference::list::put_blocks_as;
 use crate::reference::query::put_query;
-use crate::reference::{Posting, MAX_BLOCKS, MAX_DOCID, MAX_LISTS, MAX_SHELF, PER_BLOCK};
+use crate::reference::{Layout, Posting, MAX_BLOCKS, MAX_DOCID, MAX_LISTS, MAX_SHELF, PER_BLOCK};
 use crate::rng::Rng;
 
 /// Gaps at the edges of the gap number's one, two, three and four bytes (the number is the gap less one), and small ones.
@@ -47,7 +47,7 @@ pub fn postings(rng: &mut Rng, n: usize, reach: u32, spread: Spread) -> Vec<Post
     run
 }
 
-/// Postings cut into blocks: full ones as the writer makes them, or of any size.
+/// Postings cut into blocks, in either layout: full ones as the writer makes them, or of any size.
 pub fn list(rng: &mut Rng, term: u32, run: &[Posting]) -> Vec<u8> {
     let mut blocks: Vec<&[Posting]> = Vec::new();
     let mut rest = run;
@@ -59,7 +59,7 @@ pub fn list(rng: &mut Rng, term: u32, run: &[Posting]) -> Vec<u8> {
         blocks.push(block);
         rest = after;
     }
-    put_blocks(term, &blocks)
+    put_blocks_as(rng.pick(&Layout::BOTH), term, &blocks)
 }
 
 /// How large a shelf is wanted.
@@ -112,6 +112,16 @@ pub fn field_starts(bytes: &[u8]) -> Vec<usize> {
     starts
 }
 
+/// Where the bodies of some bytes begin, as far as their fields are whole.
+fn body_starts(bytes: &[u8]) -> Vec<usize> {
+    field_starts(bytes).into_iter().filter(|&at| matches!(bytes[at], 3 | 4)).collect()
+}
+
+/// One layout's tag to the other's.
+fn flip(tag: &mut u8) {
+    *tag ^= 3 ^ 4;
+}
+
 /// Bytes with one thing wrong, or now and then still right.
 pub fn damage(rng: &mut Rng, bytes: &[u8]) -> Vec<u8> {
     let mut out = bytes.to_vec();
@@ -121,7 +131,8 @@ pub fn damage(rng: &mut Rng, bytes: &[u8]) -> Vec<u8> {
     }
     let at = rng.within(0, out.len() - 1);
     let field = rng.pick(&starts);
-    match rng.within(1, 9) {
+    let bodies = body_starts(bytes);
+    match rng.within(1, 10) {
         1 => out[at] ^= 1 << rng.within(0, 7),
         2 => out[at] = rng.pick(&[0, 1, 127, 128, 255]),
         3 => out.truncate(at),
@@ -135,6 +146,8 @@ pub fn damage(rng: &mut Rng, bytes: &[u8]) -> Vec<u8> {
         7 => out.extend_from_within(field..),
         // two fields swapped
         8 => out = swapped(&out, field, rng.pick(&starts)),
+        // a body's tag made the other layout's
+        9 if !bodies.is_empty() => flip(&mut out[rng.pick(&bodies)]),
         // a byte among the first of a field: its tag, its length, its numbers
         _ => {
             let near = (field + rng.within(0, 11)).min(out.len() - 1);
@@ -144,23 +157,33 @@ pub fn damage(rng: &mut Rng, bytes: &[u8]) -> Vec<u8> {
     out
 }
 
-/// A shelf whose fields are right, with one thing wrong in a body: one of its bytes, or the summary's greatest score.
+/// A shelf whose fields are right, with one thing wrong in a body: one of its bytes, the summary's greatest score, or its whole list's tags.
 pub fn damage_body(rng: &mut Rng, shelf: &[u8]) -> Vec<u8> {
     let mut out = shelf.to_vec();
-    let of_tag = |tag: u8| field_starts(shelf).into_iter().filter(|&at| shelf[at] == tag).collect::<Vec<_>>();
-    let (summaries, bodies) = (of_tag(2), of_tag(3));
+    let summaries: Vec<usize> = field_starts(shelf).into_iter().filter(|&at| shelf[at] == 2).collect();
+    let bodies = body_starts(shelf);
     if bodies.is_empty() {
         return out;
     }
     let body = rng.pick(&bodies);
     let length = number(&shelf[body + 1..body + 3]) as usize;
-    match rng.within(1, 3) {
+    match rng.within(1, 4) {
         1 => out[rng.pick(&summaries) + 10] ^= 1 + rng.within(0, 3) as u8,
-        2 if length > 0 => out[body + 2 + rng.within(1, length)] = rng.pick(&[0, 1, 128, 255]),
+        2 => flip_list(&mut out, body),
+        3 if length > 0 => out[body + 2 + rng.within(1, length)] = rng.pick(&[0, 1, 128, 255]),
         _ if length > 0 => out[body + 2 + rng.within(1, length)] ^= 1 << rng.within(0, 7),
         _ => {}
     }
     out
+}
+
+/// The tags of all bodies of the list that has a body at `body`.
+fn flip_list(out: &mut [u8], body: usize) {
+    let starts = field_starts(out);
+    let Some(first) = starts.iter().rposition(|&at| at <= body && out[at] == 1) else { return };
+    let of_list = starts[first + 1..].iter().take_while(|&&at| out[at] != 1);
+    let bodies: Vec<usize> = of_list.copied().filter(|&at| out[at] != 2).collect();
+    bodies.into_iter().for_each(|at| flip(&mut out[at]));
 }
 
 fn swapped(bytes: &[u8], a: usize, b: usize) -> Vec<u8> {
@@ -174,7 +197,7 @@ fn swapped(bytes: &[u8], a: usize, b: usize) -> Vec<u8> {
 
 /// Bytes of any kind, mostly those that tags and lengths are made of.
 pub fn noise(rng: &mut Rng) -> Vec<u8> {
-    let byte = |rng: &mut Rng| if rng.once_in(4) { rng.next() as u8 } else { rng.pick(&[0, 1, 2, 3, 5, 9, 0x20, 0x21]) };
+    let byte = |rng: &mut Rng| if rng.once_in(4) { rng.next() as u8 } else { rng.pick(&[0, 1, 2, 3, 4, 5, 9, 0x20, 0x21]) };
     (0..rng.within(0, 60)).map(|_| byte(rng)).collect()
 }
 

@@ -7,6 +7,7 @@ use harness::compare::{self, Tally};
 use harness::program::Program;
 use harness::reference::edit::Edit;
 use harness::reference::shelf::walk;
+use harness::reference::Layout;
 use harness::rng::Rng;
 use harness::{corners, generate};
 use std::time::{SystemTime, UNIX_EPOCH};
@@ -129,13 +130,39 @@ fn an_edit(rng: &mut Rng, terms: &[u32]) -> Edit {
     }
 }
 
-/// A history from a shelf, each accepted result feeding the next; after each the checker's word.
+/// A term that a shelf has, or now and then one that it has not.
+fn a_term(rng: &mut Rng, terms: &[u32]) -> u32 {
+    if terms.is_empty() || rng.once_in(8) { rng.next() as u32 % 50 } else { rng.pick(terms) }
+}
+
+/// A list to the other layout and back, into room enough or too short: it is as it was, and a search of either shelf tells the same.
+fn conversions(t: &mut Tally, rng: &mut Rng, shelf: &[u8]) {
+    let terms = terms_of(shelf);
+    let term = a_term(rng, &terms);
+    let room = rng.pick(&[shelf.len(), shelf.len(), shelf.len() + 40, shelf.len().saturating_sub(1), 0]);
+    let ((number, _), turned) = compare::convert(t, shelf, term, room);
+    if number != 0 {
+        return;
+    }
+    let (number, _) = compare::check(t, &turned);
+    t.note("a converted shelf is sound", (number != 0).then(|| format!("refused as {number}")));
+    read_lists(t, rng, &turned);
+    let query = generate::query(rng, &terms);
+    let (before, after) = (compare::search::search(t, &query, shelf, Rooms::WIDE), compare::search::search(t, &query, &turned, Rooms::WIDE));
+    t.note("a search of both layouts", (before != after).then(|| format!("{before:?}, then {after:?}")));
+    let (_, back) = compare::convert(t, &turned, term, shelf.len());
+    t.note("a list converted twice", (back != shelf).then(|| format!("term {term} is not as it was")));
+}
+
+/// A history from a shelf, each accepted result feeding the next, conversions among the edits; after each the checker's word.
 fn edits(t: &mut Tally, rng: &mut Rng, mut shelf: Vec<u8>, turns: usize) {
     for _ in 0..turns {
-        let asked = an_edit(rng, &terms_of(&shelf));
+        let terms = terms_of(&shelf);
+        let asked = an_edit(rng, &terms);
         // an edit adds a list of one posting at most, 25 bytes
         let room = rng.pick(&[shelf.len() / 2, shelf.len(), shelf.len() + 25, shelf.len() + 25, shelf.len() + 25, shelf.len() + 1_000]);
-        let ((number, _), edited) = compare::edit(t, asked, &shelf, room);
+        let ((number, _), edited) =
+            if rng.once_in(5) { compare::convert(t, &shelf, a_term(rng, &terms), room) } else { compare::edit(t, asked, &shelf, room) };
         if number == 0 {
             let (number, _) = compare::check(t, &edited);
             t.note("an edited shelf is sound", (number != 0).then(|| format!("refused as {number}")));
@@ -158,14 +185,17 @@ fn one_round(t: &mut Tally, rng: &mut Rng) {
         read_lists(t, rng, &damaged);
         searches(t, rng, &damaged);
         edits(t, rng, damaged.clone(), 1);
+        conversions(t, rng, &damaged);
     }
     compare::check(t, &generate::noise(rng));
     read_lists(t, rng, &shelf);
     let mut wrong_bodies = shelf.clone();
     for _ in 0..3 {
         searches(t, rng, &shelf);
+        conversions(t, rng, &shelf);
         wrong_bodies = generate::damage_body(rng, &wrong_bodies);
         searches(t, rng, &wrong_bodies);
+        conversions(t, rng, &wrong_bodies);
     }
 
     let terms = terms_of(&shelf);
@@ -177,5 +207,8 @@ fn one_round(t: &mut Tally, rng: &mut Rng) {
 
     let (docids, scores) = generate::runs(rng);
     let room = rng.pick(&[0, 25, 400, 30_000, 60_000]);
-    compare::write_list(t, rng.next() as u32, &docids, &scores, room);
+    let term = rng.next() as u32;
+    for layout in Layout::BOTH {
+        compare::write_list(t, layout, term, &docids, &scores, room);
+    }
 }

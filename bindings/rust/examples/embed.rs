@@ -1,15 +1,18 @@
-//! Writes a list, rescores a sheet, searches, and shows a refusal. In `bindings/rust`: `cargo run --example embed`.
+//! Writes a list, rescores a sheet, turns the list to strips, searches, and shows a refusal. In `bindings/rust`: `cargo run --example embed`.
 use std::error::Error;
-use tagmurlen::{check, search, set, write_list, Book, MAX_INTERVALS};
+use tagmurlen::{check, convert, search, set, write_list, Book, Layout, MAX_INTERVALS};
 
 fn main() -> Result<(), Box<dyn Error>> {
     let sheets: Vec<u32> = (1..=200).collect(); // in two blocks, 1 to 100 and 101 to 200
-    let (mut first, mut shelf) = ([0; 1024], [0; 1024]);
-    let written = write_list(7, &sheets, &[5; 200], &mut first)?;
+    let (mut first, mut second, mut shelf) = ([0; 1024], [0; 1024], [0; 1024]);
+    let written = write_list(Layout::Pairs, 7, &sheets, &[5; 200], &mut first)?;
     println!("written: {written} bytes");
 
-    let length = set(&first[..written], 7, 9, 65_535, &mut shelf)?; // sheet 9 is raised to the top score
-    println!("rescored: {length} bytes");
+    let rescored = set(&first[..written], 7, 9, 65_535, &mut second)?; // sheet 9 is raised to the top score
+    println!("rescored: {rescored} bytes");
+
+    let length = convert(&second[..rescored], 7, &mut shelf)?; // in each block all scores stand together now
+    println!("in strips: {length} bytes");
 
     let query = [0x20, 0, 1, 2, 0x21, 0, 5, 0, 0, 0, 7, 10]; // the best 2 for term 7, weight 10
     let (mut docids, mut scores) = ([0; 2], [0; 2]);

@@ -47,11 +47,21 @@ pub fn read_list(shelf: &[u8], term: u32, docids: &mut [u32], scores: &mut [u16]
     read.map(|postings| postings as usize)
 }
 
-/// Writes a list to the front of a buffer and gives its length: numbers 11, 10, 9.
-pub fn write_list(term: u32, docids: &[u32], scores: &[u16], out: &mut [u8]) -> Result<usize, Refusal> {
+/// How the bodies of a list are laid out. A search answers alike on both, and a list is equally long in both.
+#[derive(Clone, Copy, Debug, PartialEq, Eq)]
+pub enum Layout {
+    /// Tag 03: each posting's gap number, then its score. A list that `set` begins is so.
+    Pairs,
+    /// Tag 04, a strip: all gap numbers of a block, then all its scores.
+    Strip,
+}
+
+/// Writes a list in a layout to the front of a buffer and gives its length: numbers 11, 10, 9.
+pub fn write_list(layout: Layout, term: u32, docids: &[u32], scores: &[u16], out: &mut [u8]) -> Result<usize, Refusal> {
     // SAFETY: the slices live through the call; `out` is borrowed alone, and the call stores within its length.
     let written = answer(|value| unsafe {
         raw::tagmurlen_write_list(
+            layout == Layout::Strip,
             term,
             docids.as_ptr(),
             docids.len(),
@@ -84,7 +94,7 @@ pub fn rank_all(query: &[u8], shelf: &[u8], docids: &mut [u32], scores: &mut [u3
     ranked.map(|hits| hits as usize)
 }
 
-/// Adds a posting or replaces its score: the new shelf to the front of `out`, and its length: numbers 10, 6, 7, 8, 11, 9.
+/// Adds a posting or replaces its score; a list keeps its layout: the new shelf to the front of `out`, and its length: numbers 10, 6, 7, 8, 11, 9.
 pub fn set(shelf: &[u8], term: u32, docid: u32, score: u16, out: &mut [u8]) -> Result<usize, Refusal> {
     // SAFETY: as in `write_list`.
     let edited = answer(|value| unsafe {
@@ -107,4 +117,12 @@ pub fn withdraw(shelf: &[u8], docid: u32, out: &mut [u8]) -> Result<usize, Refus
     // SAFETY: as in `write_list`.
     let edited = answer(|value| unsafe { raw::tagmurlen_withdraw(shelf.as_ptr(), shelf.len(), docid, out.as_mut_ptr(), out.len(), value) });
     edited.map(|bytes| bytes as usize)
+}
+
+/// Turns the list of a term to the other layout, block by block, changing no posting: the new shelf to the front of `out`, and its length, which is
+/// the old one's: numbers 6, 7, 8, 12, 9.
+pub fn convert(shelf: &[u8], term: u32, out: &mut [u8]) -> Result<usize, Refusal> {
+    // SAFETY: as in `write_list`.
+    let converted = answer(|value| unsafe { raw::tagmurlen_convert(shelf.as_ptr(), shelf.len(), term, out.as_mut_ptr(), out.len(), value) });
+    converted.map(|bytes| bytes as usize)
 }

@@ -19,6 +19,7 @@ unsafe extern "C" {
     ) -> u32;
 
     pub fn tagmurlen_write_list(
+        strip: bool,
         term: u32,
         docids: *const u32,
         docids_len: usize,
@@ -84,4 +85,6 @@ unsafe extern "C" {
     ) -> u32;
 
     pub fn tagmurlen_withdraw(shelf: *const u8, shelf_len: usize, docid: u32, out: *mut u8, out_len: usize, value: *mut u64) -> u32;
+
+    pub fn tagmurlen_convert(shelf: *const u8, shelf_len: usize, term: u32, out: *mut u8, out_len: usize, value: *mut u64) -> u32;
 }

@@ -20,7 +20,7 @@ impl Refusal {
             5 => "term twice",
             6 => {
                 "shelf over 1,048,576 bytes; field missing, unexpected, of wrong length or cut short; terms not rising; \
-                 block count not 1 to 64; 1,025th list"
+                 block count not 1 to 64; mixed tags in one list; 1,025th list"
             }
             7 => "wrong summary",
             8 => "wrong body",

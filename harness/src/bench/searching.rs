@@ -14,7 +14,7 @@ const TURNS: usize = 24;
 
 /// How the scores of the shelf's lists are spread.
 #[derive(Clone, Copy, Debug)]
-enum Scores {
+pub(super) enum Scores {
     Flat,
     Zipf,
     /// High in a few stretches of docids, the same in all lists, and low elsewhere.
@@ -44,7 +44,7 @@ fn a_list(rng: &mut Rng, term: u32, n: usize, scores: Scores) -> Vec<u8> {
 }
 
 /// A shelf of about so many bytes: eight lists whose docids meet, as long as they may be, and behind them lists that no query names.
-fn shelf_of(bytes: usize, scores: Scores) -> Vec<u8> {
+pub(super) fn shelf_of(bytes: usize, scores: Scores) -> Vec<u8> {
     let mut rng = Rng::new(3);
     let n = (bytes / 8 * 10 / 34).clamp(20, 6_400);
     let mut shelf = Vec::new();

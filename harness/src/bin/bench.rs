@@ -1,8 +1,9 @@
 //! The archive against the same in idiomatic Rust, and against a plain copy of the bytes: a table of ratios.
 
-use harness::bench::{best_of, searching};
+use harness::bench::{best_of, searching, strips};
 use harness::generate::{self, Spread};
 use harness::reference::list::pack;
+use harness::reference::Layout;
 use harness::rng::Rng;
 use harness::tuned;
 use std::hint::black_box;
@@ -15,6 +16,8 @@ fn main() {
     reader();
     writer();
     edits();
+    converter();
+    strips::table();
     searching::table();
 }
 
@@ -79,13 +82,13 @@ fn writer() {
         let mut out = vec![0; 40_000];
         let mut same = out.clone();
         let mut copy = out.clone();
-        let length = tagmurlen::write_list(7, &docids, &scores, &mut out).expect("it fits");
+        let length = tagmurlen::write_list(tagmurlen::Layout::Pairs, 7, &docids, &scores, &mut out).expect("it fits");
         let bytes = out[..length].to_vec();
         let times = best_of(
             TURNS,
             &mut [
-                &mut || assert!(tagmurlen::write_list(7, black_box(&docids), black_box(&scores), &mut out).is_ok()),
-                &mut || assert!(tuned::list::write_list(7, black_box(&docids), black_box(&scores), &mut same).is_ok()),
+                &mut || assert!(tagmurlen::write_list(tagmurlen::Layout::Pairs, 7, black_box(&docids), black_box(&scores), &mut out).is_ok()),
+                &mut || assert!(tuned::list::write_list(Layout::Pairs, 7, black_box(&docids), black_box(&scores), &mut same).is_ok()),
                 &mut || black_box(&mut copy[..length]).copy_from_slice(black_box(&bytes)),
             ],
         );
@@ -119,6 +122,32 @@ fn edits() {
         let [set, same_set, withdraw, same_withdraw, copied] = times[..] else { unreachable!() };
         row(&format!("set, shelf of {name}"), set, same_set, copied, set / shelf.len() as f64);
         row(&format!("withdraw, shelf of {name}"), withdraw, same_withdraw, copied, withdraw / shelf.len() as f64);
+    }
+}
+
+/// The middle list to the other layout and back. The check of the whole shelf is a part of it, as in an edit.
+fn converter() {
+    println!("{:<26} {:>10} {:>10} {:>10} {:>10} {:>12}", "converter", "archive", "Rust", "arch/Rust", "arch/copy", "ns per byte");
+    for (name, size) in [("1 KiB", 1 << 10), ("64 KiB", 1 << 16), ("1 MiB", 1_000_000)] {
+        let shelf = shelf_of(size);
+        let term = (shelf.len() / 8_000) as u32 / 2;
+        let mut strips = vec![0; shelf.len()];
+        tagmurlen::convert(&shelf, term, &mut strips).expect("the list is there");
+        let mut outs = vec![vec![0; shelf.len()]; 5];
+        let [to_out, to_same, from_out, from_same, copy] = &mut outs[..] else { unreachable!() };
+        let times = best_of(
+            TURNS,
+            &mut [
+                &mut || assert!(tagmurlen::convert(black_box(&shelf), term, to_out).is_ok()),
+                &mut || assert!(tuned::convert::convert(black_box(&shelf), term, to_same).is_ok()),
+                &mut || assert!(tagmurlen::convert(black_box(&strips), term, from_out).is_ok()),
+                &mut || assert!(tuned::convert::convert(black_box(&strips), term, from_same).is_ok()),
+                &mut || black_box(&mut *copy).copy_from_slice(black_box(&shelf)),
+            ],
+        );
+        let [to, same_to, from, same_from, copied] = times[..] else { unreachable!() };
+        row(&format!("to strips, {name}"), to, same_to, copied, to / shelf.len() as f64);
+        row(&format!("from strips, {name}"), from, same_from, copied, from / shelf.len() as f64);
     }
 }
 

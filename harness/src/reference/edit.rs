@@ -1,8 +1,8 @@
 //! The edits: set, clear, withdraw.
 
-use super::list::pack;
+use super::list::pack_as;
 use super::shelf::{check, List};
-use super::{refuse, Posting, Refusal, MAX_DOCID, MAX_LISTS, MAX_POSTINGS, MAX_SHELF};
+use super::{refuse, Layout, Posting, Refusal, MAX_DOCID, MAX_LISTS, MAX_POSTINGS, MAX_SHELF};
 
 #[derive(Clone, Copy, Debug, PartialEq, Eq)]
 pub enum Edit {
@@ -14,10 +14,10 @@ pub enum Edit {
     Withdraw(u32),
 }
 
-/// A list of the result: as it stands on the shelf, or its postings to be packed anew.
+/// A list of the result: as it stands on the shelf, or its postings to be packed anew. "an edit keeps a list's tag"
 enum Piece<'a> {
     Kept(&'a [u8]),
-    Packed(u32, Vec<Posting>),
+    Packed(Layout, u32, Vec<Posting>),
 }
 
 /// "Edits 10, 6/7, 8 (whole shelf), 12, 11, 9": the new shelf, where a buffer has room for it.
@@ -27,7 +27,7 @@ pub fn edit(edit: Edit, shelf: &[u8], room: usize) -> Result<Vec<u8>, Refusal> {
     }
     let lists = check(shelf)?;
     let Some(pieces) = edited(edit, shelf, &lists) else { return refuse(12, 0) };
-    if pieces.len() > MAX_LISTS || pieces.iter().any(|p| matches!(p, Piece::Packed(_, ps) if ps.len() > MAX_POSTINGS)) {
+    if pieces.len() > MAX_LISTS || pieces.iter().any(|p| matches!(p, Piece::Packed(_, _, ps) if ps.len() > MAX_POSTINGS)) {
         return refuse(11, 0);
     }
     let bytes: Vec<u8> = pieces.iter().flat_map(bytes_of).collect();
@@ -48,7 +48,7 @@ fn out_of_range(edit: Edit) -> bool {
 fn bytes_of(piece: &Piece) -> Vec<u8> {
     match piece {
         Piece::Kept(bytes) => bytes.to_vec(),
-        Piece::Packed(term, postings) => pack(*term, postings),
+        Piece::Packed(layout, term, postings) => pack_as(*layout, *term, postings),
     }
 }
 
@@ -61,19 +61,20 @@ fn edited<'a>(edit: Edit, shelf: &'a [u8], lists: &[List<'a>]) -> Option<Vec<Pie
     }
 }
 
+/// "a new list gets 03"
 fn with_posting<'a>(shelf: &'a [u8], lists: &[List<'a>], term: u32, posting: Posting) -> Vec<Piece<'a>> {
     let mut pieces: Vec<Piece> = Vec::new();
-    let mut named = Vec::new();
+    let (mut layout, mut named) = (Layout::Pairs, Vec::new());
     for list in lists.iter().filter(|l| l.term < term) {
         pieces.push(Piece::Kept(&shelf[list.start..list.end]));
     }
     if let Some(list) = lists.iter().find(|l| l.term == term) {
-        named = list.postings().expect("the shelf is sound");
+        (layout, named) = (list.layout, list.postings().expect("the shelf is sound"));
     }
     named.retain(|p| p.0 != posting.0);
     named.push(posting);
     named.sort_unstable();
-    pieces.push(Piece::Packed(term, named));
+    pieces.push(Piece::Packed(layout, term, named));
     for list in lists.iter().filter(|l| l.term > term) {
         pieces.push(Piece::Kept(&shelf[list.start..list.end]));
     }
@@ -93,7 +94,7 @@ fn without<'a>(shelf: &'a [u8], lists: &[List<'a>], docid: u32, named: impl Fn(u
         there = true;
         postings.retain(|p| p.0 != docid);
         if !postings.is_empty() {
-            pieces.push(Piece::Packed(list.term, postings));
+            pieces.push(Piece::Packed(list.layout, list.term, postings));
         }
     }
     there.then_some(pieces)

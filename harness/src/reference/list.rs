@@ -2,7 +2,7 @@
 
 use super::fields::{put_field, put_gap_number};
 use super::shelf::{walk, Summary};
-use super::{refuse, Posting, Refusal, MAX_DOCID, MAX_POSTINGS, PER_BLOCK};
+use super::{refuse, Layout, Posting, Refusal, MAX_DOCID, MAX_POSTINGS, PER_BLOCK};
 
 /// "List reading 6/7, 12, 8 (that list), 9": the list's postings, where each of two runs has room for them.
 pub fn read_list(shelf: &[u8], term: u32, docid_room: usize, score_room: usize) -> Result<Vec<Posting>, Refusal> {
@@ -18,8 +18,8 @@ pub fn read_list(shelf: &[u8], term: u32, docid_room: usize, score_room: usize) 
     Ok(postings)
 }
 
-/// "Writing 11 (the longer run), 10 (unequal runs first), 9": the bytes, where a buffer has room for them.
-pub fn write_list(term: u32, docids: &[u32], scores: &[u16], room: usize) -> Result<Vec<u8>, Refusal> {
+/// "Writing 11 (the longer run), 10 (unequal runs first), 9": the bytes, where a buffer has room for them. "The writer is told which" layout.
+pub fn write_list(layout: Layout, term: u32, docids: &[u32], scores: &[u16], room: usize) -> Result<Vec<u8>, Refusal> {
     if docids.len().max(scores.len()) > MAX_POSTINGS {
         return refuse(11, 0);
     }
@@ -35,18 +35,28 @@ pub fn write_list(term: u32, docids: &[u32], scores: &[u16], room: usize) -> Res
         return refuse(10, i);
     }
     let postings: Vec<Posting> = docids.iter().copied().zip(scores.iter().copied()).collect();
-    let bytes = pack(term, &postings);
+    let bytes = pack_as(layout, term, &postings);
     if bytes.len() > room { refuse(9, 0) } else { Ok(bytes) }
 }
 
 /// "The writer fills every block but the last with 100."
-pub fn pack(term: u32, postings: &[Posting]) -> Vec<u8> {
+pub fn pack_as(layout: Layout, term: u32, postings: &[Posting]) -> Vec<u8> {
     let blocks: Vec<&[Posting]> = postings.chunks(PER_BLOCK).collect();
-    put_blocks(term, &blocks)
+    put_blocks_as(layout, term, &blocks)
 }
 
-/// A list with these blocks, whatever their sizes.
+/// The same with tag 03: "a new list gets 03".
+pub fn pack(term: u32, postings: &[Posting]) -> Vec<u8> {
+    pack_as(Layout::Pairs, term, postings)
+}
+
+/// A list with these blocks, whatever their sizes, with tag 03.
 pub fn put_blocks(term: u32, blocks: &[&[Posting]]) -> Vec<u8> {
+    put_blocks_as(Layout::Pairs, term, blocks)
+}
+
+/// A list with these blocks in a layout.
+pub fn put_blocks_as(layout: Layout, term: u32, blocks: &[&[Posting]]) -> Vec<u8> {
     let mut out = Vec::new();
     let mut header = term.to_be_bytes().to_vec();
     header.push(blocks.len() as u8);
@@ -55,7 +65,7 @@ pub fn put_blocks(term: u32, blocks: &[&[Posting]]) -> Vec<u8> {
         put_summary(&mut out, summary_of(block));
     }
     for block in blocks {
-        put_field(&mut out, 3, &body_of(block));
+        put_field(&mut out, layout.tag(), &body_of(layout, block));
     }
     out
 }
@@ -79,12 +89,18 @@ pub fn put_summary(out: &mut Vec<u8>, s: Summary) {
     put_field(out, 2, &value);
 }
 
-/// "The first posting's score, then for each later posting the gap minus one and the score."
-pub fn body_of(block: &[Posting]) -> Vec<u8> {
-    let mut body = block[0].1.to_be_bytes().to_vec();
-    for pair in block.windows(2) {
-        put_gap_number(&mut body, pair[1].0 - pair[0].0 - 1);
-        body.extend(pair[1].1.to_be_bytes());
+/// Tag 03: "the first posting's score, then for each later posting the gap minus one and the score"; tag 04: "all gap numbers first, then all
+/// scores, two bytes each, the first posting's score first".
+pub fn body_of(layout: Layout, block: &[Posting]) -> Vec<u8> {
+    let mut body = Vec::new();
+    if layout == Layout::Strip {
+        block.windows(2).for_each(|pair| put_gap_number(&mut body, pair[1].0 - pair[0].0 - 1));
+    }
+    for (i, posting) in block.iter().enumerate() {
+        if layout == Layout::Pairs && i > 0 {
+            put_gap_number(&mut body, posting.0 - block[i - 1].0 - 1);
+        }
+        body.extend(posting.1.to_be_bytes());
     }
     body
 }

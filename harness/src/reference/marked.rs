@@ -1,13 +1,14 @@
-//! M1 to M10, and a case for each row of the refusal table.
+//! M1 to M10, a case for each row of the refusal table, and the strips.
 
+use super::convert::convert;
 use super::edit::{edit, Edit};
-use super::list::{pack, put_blocks, read_list, write_list};
+use super::list::{pack, put_blocks, put_blocks_as, read_list, write_list};
 use super::program::print;
 use super::prune::{search, Found, Room, Stopped, NOT_REACHED, OPENED, SKIPPED, STOPPED};
 use super::query::{put_query, read_query};
 use super::rank::rank_all;
 use super::shelf::check;
-use super::Refusal;
+use super::{Layout, Refusal};
 
 const WIDE: Room = Room { rows: 100, book: 1025 };
 
@@ -146,11 +147,13 @@ fn rows_9_to_12() {
     assert_eq!(read_list(&shelf, 7, 3, 2), at(9, 0));
     assert_eq!(read_list(&shelf, 7, 3, 3), Ok(vec![(2, 5), (4, 3), (9, 1)]));
     assert_eq!(read_list(&shelf, 8, 3, 3), at(12, 0));
-    assert_eq!(write_list(7, &[1; 6_401], &[], 0), at(11, 0));
-    assert_eq!(write_list(7, &[1, 2], &[1], 99), at(10, 1));
-    assert_eq!(write_list(7, &[], &[], 99), at(10, 0));
-    assert_eq!(write_list(7, &[1, 5, 5], &[1, 1, 1], 99), at(10, 2));
-    assert_eq!(write_list(7, &[1], &[1], 24), at(9, 0));
+    for layout in Layout::BOTH {
+        assert_eq!(write_list(layout, 7, &[1; 6_401], &[], 0), at(11, 0));
+        assert_eq!(write_list(layout, 7, &[1, 2], &[1], 99), at(10, 1));
+        assert_eq!(write_list(layout, 7, &[], &[], 99), at(10, 0));
+        assert_eq!(write_list(layout, 7, &[1, 5, 5], &[1, 1, 1], 99), at(10, 2));
+        assert_eq!(write_list(layout, 7, &[1], &[1], 24), at(9, 0));
+    }
     assert_eq!(edit(Edit::Set(7, 0, 1), &[9], 0), at(10, 0));
     assert_eq!(edit(Edit::Withdraw(16_777_216), &[9], 0), at(10, 0));
     assert_eq!(edit(Edit::Clear(7, 3), &shelf, 0), at(12, 0));
@@ -159,4 +162,61 @@ fn rows_9_to_12() {
     let full: Vec<(u32, u16)> = (1..=6_400).map(|d| (d, 1)).collect();
     assert_eq!(edit(Edit::Set(7, 6_401, 1), &pack(7, &full), 0), at(11, 0));
     assert_eq!(print(&vec![0; 65_537]), "R 13 0\n");
+}
+
+/// "tag 04: all gap numbers first, then all scores, two bytes each, the first posting's score first"
+#[test]
+fn a_strips_bytes() {
+    let block: &[(u32, u16)] = &[(5, 9), (133, 8), (300, 0x102)];
+    let strip = put_blocks_as(Layout::Strip, 7, &[block]);
+    assert_eq!(strip[20..], [4, 0, 9, 127, 0xa6, 1, 0, 9, 0, 8, 1, 2]);
+    assert_eq!(put_blocks(7, &[block])[20..], [3, 0, 9, 0, 9, 127, 0, 8, 0xa6, 1, 1, 2]);
+    assert_eq!(read_list(&strip, 7, 3, 3), Ok(block.to_vec()));
+}
+
+#[test]
+fn mixed_tags_are_6() {
+    let blocks: [&[(u32, u16)]; 3] = [&[(1, 1)], &[(2, 1)], &[(3, 1)]];
+    let refusal = |layout: Layout, flipped: &[usize]| {
+        let mut shelf = put_blocks_as(layout, 7, &blocks);
+        flipped.iter().for_each(|&at| shelf[at] ^= 3 ^ 4);
+        check(&shelf).err().map(|r| (r.number, r.offset))
+    };
+    for layout in Layout::BOTH {
+        assert_eq!(refusal(layout, &[]), None);
+        assert_eq!(refusal(layout, &[44]), Some((6, 49)));
+        assert_eq!(refusal(layout, &[49]), Some((6, 49)));
+        assert_eq!(refusal(layout, &[54]), Some((6, 54)));
+        assert_eq!(refusal(layout, &[44, 49]), Some((6, 54)));
+        assert_eq!(refusal(layout, &[44, 49, 54]), None);
+    }
+}
+
+/// "converter 6/7, 8 (whole shelf), 12, 9"
+#[test]
+fn the_converter() {
+    let shelf = m1_shelf();
+    let strips = convert(&shelf, 7, 73).expect("accepted");
+    assert_eq!(strips[32..45], [4, 0, 5, 1, 0, 5, 0, 3, 4, 0, 2, 0, 1]);
+    assert_eq!((&strips[..32], &strips[45..]), (&shelf[..32], &shelf[45..]));
+    assert_eq!(convert(&strips, 7, 73), Ok(shelf.clone()));
+    assert_eq!(print(&[m1_query(1), strips].concat()), print(&[m1_query(1), shelf.clone()].concat()));
+    assert_eq!(convert(&shelf[..72], 8, 0), at(6, 65));
+    let mut wrong = m1_shelf();
+    wrong[69] = 9;
+    assert_eq!(convert(&wrong, 8, 0), at(8, 65));
+    assert_eq!(convert(&shelf, 8, 0), at(12, 0));
+    assert_eq!(convert(&shelf, 7, 72), at(9, 0));
+}
+
+/// "an edit keeps a list's tag and a new list gets 03"
+#[test]
+fn edits_keep_the_tag() {
+    let run = |edits: &[Edit], shelf: Vec<u8>| edits.iter().fold(shelf, |shelf, &e| edit(e, &shelf, 200).expect("accepted"));
+    let strip = put_blocks_as(Layout::Strip, 7, &[&[(2, 5), (4, 3)]]);
+    let edits = [Edit::Set(7, 9, 1), Edit::Set(7, 4, 2), Edit::Clear(7, 2), Edit::Set(8, 9, 1), Edit::Withdraw(4)];
+    let expected = [put_blocks_as(Layout::Strip, 7, &[&[(9, 1)]]), pack(8, &[(9, 1)])].concat();
+    assert_eq!(run(&edits, strip.clone()), expected);
+    let emptied = [Edit::Clear(7, 2), Edit::Clear(7, 4), Edit::Set(7, 2, 5)];
+    assert_eq!(run(&emptied, strip), pack(7, &[(2, 5)]));
 }

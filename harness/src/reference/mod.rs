@@ -1,6 +1,7 @@
 //! A second implementation of the whole paper, written from its sentences alone, plainly and with no thought for speed.
 //! Nothing here calls the archive; the comparison stands in `compare`.
 
+pub mod convert;
 pub mod edit;
 pub mod fields;
 pub mod list;
@@ -28,6 +29,34 @@ pub const MAX_K: u8 = 100;
 pub const MAX_TERMS: usize = 8;
 /// "program input over 65,536 bytes"
 pub const MAX_INPUT: usize = 65_536;
+
+/// How the bodies of a list are laid out: "All bodies of a list have one tag".
+#[derive(Clone, Copy, Debug, PartialEq, Eq)]
+pub enum Layout {
+    /// Tag 03: a posting's gap number, then its score.
+    Pairs,
+    /// Tag 04: "all gap numbers first, then all scores".
+    Strip,
+}
+
+impl Layout {
+    pub const BOTH: [Layout; 2] = [Layout::Pairs, Layout::Strip];
+
+    /// The tag of its bodies.
+    pub fn tag(self) -> u8 {
+        match self {
+            Layout::Pairs => 3,
+            Layout::Strip => 4,
+        }
+    }
+
+    pub fn other(self) -> Layout {
+        match self {
+            Layout::Pairs => Layout::Strip,
+            Layout::Strip => Layout::Pairs,
+        }
+    }
+}
 
 /// A posting: a sheet's docid and its stored score.
 pub type Posting = (u32, u16);

@@ -1,7 +1,7 @@
 //! A shelf: its walk (6 and 7) and its checker (then 8).
 
 use super::fields::{field, gap_number, number};
-use super::{refuse, Posting, Refusal, MAX_BLOCKS, MAX_LISTS, MAX_SHELF, PER_BLOCK};
+use super::{refuse, Layout, Posting, Refusal, MAX_BLOCKS, MAX_LISTS, MAX_SHELF, PER_BLOCK};
 
 /// "least docid (3), greatest docid (3), greatest score (2), posting count (1)"
 #[derive(Clone, Copy, Debug, PartialEq, Eq)]
@@ -29,46 +29,76 @@ impl Summary {
     }
 }
 
-/// One block: its summary, and its body with the offset of the body's tag.
+/// One block: its summary, and its body with the body's layout and the offset of its tag.
 #[derive(Clone, Copy, Debug)]
 pub struct Block<'a> {
     pub summary: Summary,
+    pub layout: Layout,
     pub body_at: usize,
     pub body: &'a [u8],
 }
 
+/// The gap number with which the bytes begin, which are moved past it.
+fn take_gap(rest: &mut &[u8]) -> Option<u32> {
+    let (gap, after) = gap_number(rest)?;
+    *rest = after;
+    Some(gap)
+}
+
+/// The score with which the bytes begin, which are moved past it.
+fn take_score(rest: &mut &[u8]) -> Option<u16> {
+    let (score, after) = rest.split_at_checked(2)?;
+    *rest = after;
+    Some(number(score) as u16)
+}
+
 impl Block<'_> {
+    /// The gap numbers and the scores that the body reads as, to its last byte.
+    fn numbers(&self) -> Option<(Vec<u32>, Vec<u16>)> {
+        let mut rest = self.body;
+        let (mut gaps, mut scores) = (Vec::new(), Vec::new());
+        match self.layout {
+            Layout::Pairs => {
+                scores.push(take_score(&mut rest)?);
+                for _ in 1..self.summary.count {
+                    gaps.push(take_gap(&mut rest)?);
+                    scores.push(take_score(&mut rest)?);
+                }
+            }
+            Layout::Strip => {
+                for _ in 1..self.summary.count {
+                    gaps.push(take_gap(&mut rest)?);
+                }
+                for _ in 0..self.summary.count {
+                    scores.push(take_score(&mut rest)?);
+                }
+            }
+        }
+        rest.is_empty().then_some((gaps, scores))
+    }
+
     /// The block's postings; nothing where its body is wrong: "unless it reads, to its last byte, as exactly count postings with scores of 1 or
     /// more, the last docid being greatest, and the largest score equal to the summary's".
     pub fn postings(&self) -> Option<Vec<Posting>> {
-        let mut postings: Vec<Posting> = Vec::with_capacity(self.summary.count as usize);
-        let mut rest = self.body;
-        let mut docid = self.summary.least;
-        while postings.len() < self.summary.count as usize {
-            if !postings.is_empty() {
-                let (gap_less_one, after) = gap_number(rest)?;
-                docid += gap_less_one + 1;
-                rest = after;
-            }
-            let score = number(rest.get(..2)?) as u16;
-            rest = &rest[2..];
-            postings.push((docid, score));
-            if score == 0 || docid > self.summary.greatest {
-                return None;
-            }
+        let (gaps, scores) = self.numbers()?;
+        let mut docids = vec![u64::from(self.summary.least)];
+        for gap_less_one in gaps {
+            docids.push(docids[docids.len() - 1] + u64::from(gap_less_one) + 1);
         }
-        let top = postings.iter().map(|p| u32::from(p.1)).max()?;
-        let right = rest.is_empty() && docid == self.summary.greatest && top == self.summary.top;
-        right.then_some(postings)
+        let right = docids.last() == Some(&u64::from(self.summary.greatest))
+            && scores.iter().all(|&score| score >= 1)
+            && scores.iter().max().map(|&top| u32::from(top)) == Some(self.summary.top);
+        right.then(|| docids.into_iter().map(|docid| docid as u32).zip(scores).collect())
     }
 }
 
-/// One list: its term, its bytes' place on the shelf and its blocks.
+/// One list: its term, its bytes' place on the shelf, its layout and its blocks.
 #[derive(Clone, Debug)]
 pub struct List<'a> {
     pub term: u32,
     pub start: usize,
     pub end: usize,
+    pub layout: Layout,
     pub blocks: Vec<Block<'a>>,
 }
 
@@ -111,6 +141,7 @@ fn header(shelf: &[u8], at: usize, previous: Option<u32>) -> Option<(u32, usize)
     (rises && (1..=MAX_BLOCKS).contains(&blocks)).then_some((term, blocks))
 }
 
+/// The first body's tag is the list's: "mixed tags in one list are 6".
 fn one_list(shelf: &[u8], start: usize, previous: Option<u32>) -> Result<List<'_>, Refusal> {
     let Some((term, count)) = header(shelf, start, previous) else { return refuse(6, start) };
     let mut at = start + 8;
@@ -124,13 +155,14 @@ fn one_list(shelf: &[u8], start: usize, previous: Option<u32>) -> Result<List<'_
         summaries.push(summary);
         at += 12;
     }
+    let Some(layout) = Layout::BOTH.into_iter().find(|l| shelf.get(at) == Some(&l.tag())) else { return refuse(6, at) };
     let mut blocks = Vec::new();
     for summary in summaries {
-        let Some(body) = field(shelf, at, 3) else { return refuse(6, at) };
-        blocks.push(Block { summary, body_at: at, body });
+        let Some(body) = field(shelf, at, layout.tag()) else { return refuse(6, at) };
+        blocks.push(Block { summary, layout, body_at: at, body });
         at += 3 + body.len();
     }
-    Ok(List { term, start, end: at, blocks })
+    Ok(List { term, start, end: at, layout, blocks })
 }
 
 /// "Checker 6/7, 8."

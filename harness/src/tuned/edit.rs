@@ -2,10 +2,11 @@
 
 use super::list::{list_size, write_list};
 use super::{check, one_list, right_body, Refusal, Summary};
-use crate::reference::{MAX_DOCID, MAX_LISTS, MAX_POSTINGS, MAX_SHELF};
+use crate::reference::{Layout, MAX_DOCID, MAX_LISTS, MAX_POSTINGS, MAX_SHELF};
 
-/// The postings of one list, and room for one more than a list may have.
+/// The postings of one list in its layout, and room for one more than a list may have.
 struct Run {
+    layout: Layout,
     docids: [u32; MAX_POSTINGS + 1],
     scores: [u16; MAX_POSTINGS + 1],
     held: usize,
@@ -13,12 +14,13 @@ struct Run {
 
 impl Run {
     fn empty() -> Run {
-        Run { docids: [0; MAX_POSTINGS + 1], scores: [0; MAX_POSTINGS + 1], held: 0 }
+        Run { layout: Layout::Pairs, docids: [0; MAX_POSTINGS + 1], scores: [0; MAX_POSTINGS + 1], held: 0 }
     }
 
     fn read(&mut self, shelf: &[u8], list: &List) {
         self.held = 0;
         blocks_of(shelf, list, |summary, body| {
+            self.layout = if summary.strip { Layout::Strip } else { Layout::Pairs };
             right_body(body, summary, |docid, score| {
                 self.docids[self.held] = docid;
                 self.scores[self.held] = score;
@@ -61,18 +63,18 @@ impl Run {
     }
 
     fn write(&self, term: u32, out: &mut [u8]) -> Result<usize, Refusal> {
-        if self.held == 0 { Ok(0) } else { write_list(term, self.docids(), self.scores(), out) }
+        if self.held == 0 { Ok(0) } else { write_list(self.layout, term, self.docids(), self.scores(), out) }
     }
 }
 
-struct List {
-    term: u32,
-    at: usize,
+pub(super) struct List {
+    pub(super) term: u32,
+    pub(super) at: usize,
     next: usize,
 }
 
 /// The lists of a sound shelf, in order.
-fn lists(shelf: &[u8]) -> impl Iterator<Item = List> + '_ {
+pub(super) fn lists(shelf: &[u8]) -> impl Iterator<Item = List> + '_ {
     let mut at = 0;
     std::iter::from_fn(move || {
         if at == shelf.len() {

@@ -1,7 +1,7 @@
 //! The reader and the writer of one list, with no allocation.
 
 use super::{one_list, right_body, walk, Refusal};
-use crate::reference::{MAX_DOCID, MAX_POSTINGS, PER_BLOCK};
+use crate::reference::{Layout, MAX_DOCID, MAX_POSTINGS, PER_BLOCK};
 
 /// Reads a list into two runs, in the order 6/7, 12, 8, 9.
 pub fn read_list(shelf: &[u8], term: u32, docids: &mut [u32], scores: &mut [u16]) -> Result<usize, Refusal> {
@@ -73,7 +73,7 @@ fn put(out: &mut [u8], at: usize, bytes: &[u8]) -> usize {
 }
 
 /// Writes a list, in the order 11, 10, 9.
-pub fn write_list(term: u32, docids: &[u32], scores: &[u16], out: &mut [u8]) -> Result<usize, Refusal> {
+pub fn write_list(layout: Layout, term: u32, docids: &[u32], scores: &[u16], out: &mut [u8]) -> Result<usize, Refusal> {
     let size = list_size(docids, scores)?;
     if out.len() < size {
         return Err((9, 0));
@@ -90,18 +90,39 @@ pub fn write_list(term: u32, docids: &[u32], scores: &[u16], out: &mut [u8]) -> 
         at = put(out, at, &[docids.len() as u8]);
     }
     for (docids, scores) in blocks() {
-        let head = put(out, at, &[3]);
-        at = put(out, head + 2, &scores[0].to_be_bytes());
-        for (pair, score) in docids.windows(2).zip(&scores[1..]) {
-            let mut n = pair[1] - pair[0] - 1;
-            while n >= 0x80 {
-                at = put(out, at, &[n as u8 | 0x80]);
-                n >>= 7;
-            }
-            at = put(out, at, &[n as u8]);
-            at = put(out, at, &score.to_be_bytes());
-        }
+        let head = put(out, at, &[layout.tag()]);
+        at = match layout {
+            Layout::Pairs => put_pairs(out, head + 2, docids, scores),
+            Layout::Strip => put_strip(out, head + 2, docids, scores),
+        };
         put(out, head, &((at - head - 2) as u16).to_be_bytes());
     }
     Ok(at)
+}
+
+fn put_gap(out: &mut [u8], mut at: usize, mut n: u32) -> usize {
+    while n >= 0x80 {
+        at = put(out, at, &[n as u8 | 0x80]);
+        n >>= 7;
+    }
+    put(out, at, &[n as u8])
+}
+
+fn put_pairs(out: &mut [u8], at: usize, docids: &[u32], scores: &[u16]) -> usize {
+    let mut at = put(out, at, &scores[0].to_be_bytes());
+    for (pair, score) in docids.windows(2).zip(&scores[1..]) {
+        at = put_gap(out, at, pair[1] - pair[0] - 1);
+        at = put(out, at, &score.to_be_bytes());
+    }
+    at
+}
+
+fn put_strip(out: &mut [u8], mut at: usize, docids: &[u32], scores: &[u16]) -> usize {
+    for pair in docids.windows(2) {
+        at = put_gap(out, at, pair[1] - pair[0] - 1);
+    }
+    for score in scores {
+        at = put(out, at, &score.to_be_bytes());
+    }
+    at
 }

@@ -1,5 +1,6 @@
 //! The measure for the benchmarks: the same rules in idiomatic Rust, each byte looked at as seldom as may be.
 
+pub mod convert;
 pub mod edit;
 pub mod list;
 pub mod search;
@@ -23,6 +24,8 @@ struct Summary {
     greatest: u32,
     top: u16,
     count: u8,
+    /// Whether its body is a strip: known once the walk is at the bodies.
+    strip: bool,
 }
 
 fn summary_at(shelf: &[u8], at: usize) -> Option<Summary> {
@@ -33,6 +36,7 @@ fn summary_at(shelf: &[u8], at: usize) -> Option<Summary> {
         greatest: u32::from_be_bytes([0, v[3], v[4], v[5]]),
         top: u16::from_be_bytes([v[6], v[7]]),
         count: v[8],
+        strip: false,
     })
 }
 
@@ -67,7 +71,37 @@ fn gap(body: &[u8]) -> Option<(u32, &[u8])> {
 
 /// Whether a body is right; hands on its postings as they are read.
 #[inline]
-fn right_body(body: &[u8], s: Summary, mut posting: impl FnMut(u32, u16)) -> bool {
+fn right_body(body: &[u8], s: Summary, posting: impl FnMut(u32, u16)) -> bool {
+    if s.strip { right_strip(body, s, posting) } else { right_pairs(body, s, posting) }
+}
+
+/// The gap numbers of a strip, and its scores: the last two bytes for each posting.
+fn strip_parts(body: &[u8], count: u8) -> Option<(&[u8], &[u8])> {
+    body.len().checked_sub(2 * usize::from(count)).map(|gaps| body.split_at(gaps))
+}
+
+#[inline]
+fn right_strip(body: &[u8], s: Summary, mut posting: impl FnMut(u32, u16)) -> bool {
+    let Some((mut gaps, scores)) = strip_parts(body, s.count) else { return false };
+    let (mut docid, mut top) = (s.least, 0);
+    for (i, score) in scores.chunks_exact(2).enumerate() {
+        if i > 0 {
+            let Some((less_one, after)) = gap(gaps) else { return false };
+            docid += less_one + 1;
+            gaps = after;
+        }
+        let score = u16::from_be_bytes([score[0], score[1]]);
+        if score == 0 || docid > s.greatest {
+            return false;
+        }
+        posting(docid, score);
+        top = top.max(score);
+    }
+    gaps.is_empty() && docid == s.greatest && top == s.top
+}
+
+#[inline]
+fn right_pairs(body: &[u8], s: Summary, mut posting: impl FnMut(u32, u16)) -> bool {
     let Some(first) = body.first_chunk() else { return false };
     let mut top = u16::from_be_bytes(*first);
     if top == 0 {
@@ -112,9 +146,10 @@ fn one_list<'a>(shelf: &'a [u8], start: usize, floor: u64, mut block: impl FnMut
         previous = summary.greatest;
         at += 12;
     }
+    let strip = shelf.get(at) == Some(&4);
     for i in 0..count {
-        let length = field(shelf, at, 3).ok_or((6, at))?;
-        let summary = summary_at(shelf, start + 8 + 12 * i).ok_or((6, at))?;
+        let length = field(shelf, at, if strip { 4 } else { 3 }).ok_or((6, at))?;
+        let summary = Summary { strip, ..summary_at(shelf, start + 8 + 12 * i).ok_or((6, at))? };
         block(summary, at, &shelf[at + 3..at + 3 + length]);
         at += 3 + length;
     }
