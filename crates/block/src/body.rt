@@ -54,10 +54,10 @@ pub fn right_body(s: &[u8], m: Summary) -> bool
     let mut most: u16 = 0;
     loop {
         match c.next(gaps, points) {
-            Step::Posting(doc, points, onward) => {
+            Step::Posting(doc, score, onward) => {
                 last = doc;
-                if most < points {
-                    most = points;
+                if most < score {
+                    most = score;
                 }
                 c = onward;
             }
@@ -87,13 +87,13 @@ pub fn read_body(s: &[u8], m: Summary, docs: &mut [u32], scores: &mut [u16], at:
     let mut i = at;
     loop {
         match c.next(gaps, points) {
-            Step::Posting(doc, points, onward) => {
+            Step::Posting(doc, score, onward) => {
                 docs[i] = doc;
-                scores[i] = points;
+                scores[i] = score;
                 i += 1;
                 last = doc;
-                if largest < points {
-                    largest = points;
+                if largest < score {
+                    largest = score;
                 }
                 c = onward;
             }

@@ -28,7 +28,8 @@ use Rattle.shelf.proofs.Sounds.{Good, Listed, or-none, sound-good}
 use Rattle.list.specs.Write.{sumsBytes, bodiesBytes, blocksBytes}
 use Rattle.list.specs.Answer.{Gives}
 use Rattle.list.specs.declared.answer.Answer.the-variants.{Done}
-use Rattle.list.proofs.Writes.{Fine, Fines, blocks-size}
+use Rattle.list.proofs.Writes.{Fines, blocks-size}
+use Rattle.list.proofs.WritesBack.{fine-few}
 use Rattle.list.proofs.Canonical.{chunk, chunks, chunks-length}
 use Rattle.change.specs.Bytes.{Piece, pieceOf, pieces, joined}
 use Rattle.change.specs.Seat.{seatOf}
@@ -88,15 +89,11 @@ over a b t cs r =
 -- ---- where the list of term t is
 
 -- its summaries are right
-few-of : (p : ℕ) (c : List Post) → Fine p c → length c ≤ 100
-few-of p [] f = absurd f
-few-of p (x ∷ xs) f = f .2
-
 fit-all : (prev p : ℕ) (bs : List Block) → Good prev bs → Fines p (chunks bs) → All (λ (x : Block). length (chunk (x .sum) (x .body)) ≡ x .sum .count) bs → All (λ (x : Block). Fit (x .sum)) bs
 fit-all prev p [] g f z = tt
 fit-all prev p (b ∷ bs) g f z =
     let k = right-facts prev (b .sum) (g .0) in
-    let own : Fit (b .sum) = record { some = k .some; few = omega (arith, z .0, few-of p (chunk (b .sum) (b .body)) (f .0)); above = omega (arith, k .above) } in
+    let own : Fit (b .sum) = record { some = k .some; few = omega (arith, z .0, fine-few p (chunk (b .sum) (b .body)) (f .0)); above = omega (arith, k .above) } in
     (own, fit-all (b .sum .greatest) (lastDoc p (chunk (b .sum) (b .body))) bs (g .3) (f .1) (z .1))
 
 -- lists of higher terms are as they were

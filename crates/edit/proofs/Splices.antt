@@ -2,7 +2,7 @@
 use Prim.Native.Nat.{ℕ, suc, _+_, _-_, _≤_, _<_}
 use native.Mathlib.Omega.{arith}
 use mathlib.Core.Path.{_≡_, refl, sym, ap, subst, _∙_}
-use mathlib.Core.List.{List, [], _∷_, _++_, append-assoc}
+use mathlib.Core.List.{List, [], _∷_, _++_, append-assoc, append-nil}
 use mathlib.Core.Bool.{Bool, true, false, false≢true, cond, _&&_}
 use borrow.Author.Tests.{ltb-true, ltb-false, lt-ltb, le-ltb, le-leb, eqb-true, eqb-false, eq-eqb, ne-eqb}
 use lib.Dec.{leb, ltb, eqb}
@@ -63,10 +63,6 @@ pub record Freeing (s : List ℕ) (ls : List Listing) (at t a : ℕ) : Type 0 wh
   pub back : joined after ≡ drop a s
   pub inside : a ≤ length s
 
-bytes-none : (xs : List ℕ) → xs ++ [] ≡ xs
-bytes-none [] = refl
-bytes-none (x ∷ xs) = ap {B = List ℕ} (λ t. x ∷ t) (bytes-none xs)
-
 words-high : (floor t : ℕ) (s : List ℕ) (ls : List Listing) → t < floor → Words floor (wordsOf ls) → All (λ (x : Piece). t < x .term) (pieces s ls)
 words-high floor t s [] h ok = tt
 words-high floor t s (l ∷ ls) h ok = (omega (arith, ok .0), words-high (l .place .term + 1) t s ls (omega (arith, ok .0)) (ok .3))
@@ -107,7 +103,7 @@ taken n floor at t s (l ∷ ms) p e b g q =
       term = sym tt1;
       posts = ap {B = List Post} postsOf bl;
       layout = ap stripOf bl;
-      front = rw (w .start) (bytes-none (take at s));
+      front = rw (w .start) (append-nil (take at s));
       back = pieces-joined (n - 1) (l .place .term + 1) (l .place .next) s ms (i .left);
       ready = w .ready;
       right = rw bl at (o .0);
@@ -142,7 +138,7 @@ freed : (n floor at t : ℕ) (s : List ℕ) (ls : List Listing) (a : ℕ) → at
 freed n floor at t s [] a h e b g q =
     let z : at ≡ a = cc in
     subst (λ (x : ℕ). Freeing s [] at t x) z
-    (record { before = []; after = []; is = refl; low = tt; high = tt; front = bytes-none (take at s); back = pieces-joined n floor at s [] e; inside = h })
+    (record { before = []; after = []; is = refl; low = tt; high = tt; front = append-nil (take at s); back = pieces-joined n floor at s [] e; inside = h })
 freed n floor at t s (l ∷ ms) a h e b g q =
     let i = lists-inv n floor at s l ms e in
     let w = list-walked floor at s l (i .reads) in
@@ -159,7 +155,7 @@ freed n floor at t s (l ∷ ms) a h e b g q =
       is = refl;
       low = tt;
       high = (lt, words-high (l .place .term + 1) t s ms (omega arith) (g .3));
-      front = bytes-none (take at s);
+      front = append-nil (take at s);
       back = pieces-joined n floor at s (l ∷ ms) e;
       inside = h;
     }))

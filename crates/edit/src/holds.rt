@@ -22,7 +22,7 @@ fn body_holds(s: &[u8], m: Summary, d: u32) -> bool
     let mut c = Cursor::new(m);
     loop {
         match c.next(gaps, points) {
-            Step::Posting(doc, points, onward) => {
+            Step::Posting(doc, score, onward) => {
                 if d <= doc {
                     return d == doc;
                 }

@@ -46,7 +46,7 @@ fine-some : (p : ℕ) (c : List Post) → Fine p c → 0 < length c
 fine-some p [] f = absurd f
 fine-some p (x ∷ xs) f = omega arith
 
-fine-few : (p : ℕ) (c : List Post) → Fine p c → length c ≤ 100
+pub fine-few : (p : ℕ) (c : List Post) → Fine p c → length c ≤ 100
 fine-few p [] f = absurd f
 fine-few p (x ∷ xs) f = f .2
 
