@@ -9,7 +9,8 @@ use lib.ListN.{length, take, drop, take-append-drop}
 use lib.Seq.{drop-drop}
 use lib.Dec.{leb, eqb}
 use Rattle.model.specs.Post.{Post, Rising, Scored, lastDoc, topScore}
-use Rattle.model.proofs.Lists.{split, and-true, Bytes, bytes-drop, bytes-take}
+use Rattle.model.specs.Runs.{Bytes}
+use Rattle.model.proofs.Lists.{split, and-true, bytes-drop, bytes-take}
 use Rattle.wire.specs.Read.{Read, got, stopped, further}
 use Rattle.wire.specs.Gap.{gap, gapBytes, score}
 use Rattle.wire.proofs.Gaps.{gap-only, score-only}

@@ -11,7 +11,8 @@ use lib.Seq.{take-at, drop-at, drop-drop}
 use Rattle.model.specs.Limits.{maxLists, maxShelf}
 use Rattle.model.specs.Outcome.{Outcome, refused, done}
 use Rattle.model.specs.Post.{Post}
-use Rattle.model.proofs.Lists.{split, Bytes, bytes-drop, rest-none}
+use Rattle.model.specs.Runs.{Bytes}
+use Rattle.model.proofs.Lists.{split, bytes-drop, rest-none}
 use Rattle.shelf.specs.Walk.{Listing, list, onto, lists, walk, postsOf, stripOf}
 use Rattle.shelf.specs.Check.{badBody, badLists, checked, judged}
 use Rattle.shelf.specs.declared.check.BadRead.the-variants.{NoBad}

@@ -41,7 +41,7 @@ pub fn find_seat(s: &[u8], term: u32) -> Seat
 }
 
 // How many lists a sound shelf has.
-pub fn lists_in(s: &[u8]) -> usize
+pub(crate) fn lists_in(s: &[u8]) -> usize
     ensures { λ r. ⌜ ((ls : List Listing) → checked (now (s .entry)) ≡ done ls → r ≡ length ls) ⌝ }
 {
     let mut at: usize = 0;

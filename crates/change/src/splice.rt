@@ -40,7 +40,7 @@ pub fn put_new(
 }
 
 // Writes the shelf with the list of these postings, or none, in place of its bytes from `at` to `next`; or gives number 11 or 9.
-pub fn splice(
+pub(crate) fn splice(
     s: &[u8],
     at: usize,
     next: usize,

@@ -7,7 +7,8 @@ use mathlib.Core.Bool.{Bool, not}
 use lib.ListN.{length, take, drop, length-append}
 use Rattle.model.specs.Outcome.{done}
 use Rattle.model.specs.Post.{Post}
-use Rattle.model.proofs.Lists.{Bytes, bytes-drop}
+use Rattle.model.specs.Runs.{Bytes}
+use Rattle.model.proofs.Lists.{bytes-drop}
 use Rattle.wire.specs.Field.{fieldBytes}
 use Rattle.wire.proofs.Fields.{field-size}
 use Rattle.block.specs.Body.{tagOf, bodyBytes}

@@ -10,7 +10,8 @@ use lib.Seq.{take-at, drop-at, drop-drop}
 use Rattle.model.specs.Limits.{maxLists, maxShelf}
 use Rattle.model.specs.Outcome.{refused, done}
 use Rattle.model.specs.Post.{Post, lastDoc}
-use Rattle.model.proofs.Lists.{split, Bytes}
+use Rattle.model.specs.Runs.{Bytes}
+use Rattle.model.proofs.Lists.{split}
 use Rattle.block.specs.Body.{bodyBytes}
 use Rattle.block.proofs.Bodies.{body-round}
 use Rattle.shelf.specs.Walk.{Listing, stripOf, list, lists}

@@ -8,7 +8,8 @@ use borrow.Author.Tests.{eqb-true, ne-eqb}
 use lib.Dec.{eqb}
 use lib.ListN.{length, drop, length-append}
 use Rattle.model.specs.Outcome.{done}
-use Rattle.model.proofs.Lists.{split, Bytes}
+use Rattle.model.specs.Runs.{Bytes}
+use Rattle.model.proofs.Lists.{split}
 use Rattle.shelf.specs.Walk.{Listing, lists, postsOf, stripOf}
 use Rattle.shelf.specs.Check.{badBody, badLists, checked}
 use Rattle.shelf.specs.declared.check.BadRead.the-variants.{NoBad}

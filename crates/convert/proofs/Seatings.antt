@@ -11,8 +11,8 @@ use lib.ListN.{length, take, drop, set, length-append, length-drop, length-set}
 use lib.Seq.{sets, take-all, drop-at, set-append-left}
 use Rattle.model.specs.Outcome.{Outcome, refused, done, andThen}
 use Rattle.model.specs.Post.{Post, lastDoc}
-use Rattle.model.specs.Runs.{All, Stored}
-use Rattle.model.proofs.Lists.{split, Bytes}
+use Rattle.model.specs.Runs.{All, Stored, Bytes}
+use Rattle.model.proofs.Lists.{split}
 use Rattle.model.proofs.Storing.{sets-front}
 use Rattle.wire.specs.Number.{be}
 use Rattle.wire.specs.Field.{fieldBytes}

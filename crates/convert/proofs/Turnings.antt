@@ -9,8 +9,8 @@ use lib.Seq.{sets, length-sets, length-take-le, take-at}
 use Rattle.model.specs.Limits.{perBlock}
 use Rattle.model.specs.Outcome.{refused, done}
 use Rattle.model.specs.Post.{Post, postings, docs, scores, Rising, Even}
-use Rattle.model.specs.Runs.{All, Stored}
-use Rattle.model.proofs.Lists.{split, map-length, Bytes, bytes-drop, bytes-take}
+use Rattle.model.specs.Runs.{All, Stored, Bytes}
+use Rattle.model.proofs.Lists.{split, map-length, bytes-drop, bytes-take}
 use Rattle.model.proofs.Storing.{Rest, rest-start, rest-turn, rest-end, sets-front, stored-as}
 use Rattle.wire.specs.Field.{whole, fieldLen, fieldValue, fieldBytes}
 use Rattle.wire.proofs.Fields.{field-size, value-length}

@@ -11,8 +11,8 @@ use lib.Seq.{length-take-le}
 use Rattle.model.specs.Limits.{maxPostings, maxLists, maxShelf}
 use Rattle.model.specs.Outcome.{refused, done}
 use Rattle.model.specs.Post.{Post, postings, docs, scores}
-use Rattle.model.specs.Runs.{has, Stored}
-use Rattle.model.proofs.Lists.{split, or-false, or-assoc, Bytes}
+use Rattle.model.specs.Runs.{has, Stored, Bytes}
+use Rattle.model.proofs.Lists.{split, or-false, or-assoc}
 use Rattle.model.proofs.Storing.{Rest, rest-start, rest-turn, rest-end, rest-room}
 use Rattle.shelf.specs.Walk.{Listing, list, lists, postsOf, blocksAt, stripOf}
 use Rattle.shelf.specs.Check.{badBody, badLists, checked}

@@ -11,8 +11,8 @@ use lib.Seq.{length-take-le}
 use Rattle.model.specs.Limits.{maxPostings, maxShelf}
 use Rattle.model.specs.Outcome.{Outcome, refused, done}
 use Rattle.model.specs.Post.{Post, postings, docs, Rising}
-use Rattle.model.specs.Runs.{has}
-use Rattle.model.proofs.Lists.{split, Bytes}
+use Rattle.model.specs.Runs.{has, Bytes}
+use Rattle.model.proofs.Lists.{split}
 use Rattle.shelf.specs.Walk.{Listing, postsOf, blocksAt, blocksOf}
 use Rattle.shelf.specs.Check.{checked, judged}
 use Rattle.list.specs.Write.{Writable}

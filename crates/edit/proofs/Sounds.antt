@@ -10,8 +10,8 @@ use lib.ListN.{length}
 use Rattle.model.specs.Limits.{maxLists, maxShelf}
 use Rattle.model.specs.Outcome.{Outcome, refused, done, andThen}
 use Rattle.model.specs.Post.{Post, lastDoc, topScore}
-use Rattle.model.specs.Runs.{All}
-use Rattle.model.proofs.Lists.{split, and-true, Bytes}
+use Rattle.model.specs.Runs.{All, Bytes}
+use Rattle.model.proofs.Lists.{split, and-true}
 use Rattle.wire.specs.Read.{Read, got, stopped}
 use Rattle.block.specs.Body.{bodyPosts, fits, rightBody}
 use Rattle.shelf.specs.Walk.{Block, Listing, readOr}

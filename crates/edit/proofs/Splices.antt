@@ -11,8 +11,8 @@ use lib.Seq.{take-add}
 use Rattle.model.specs.Limits.{maxPostings, maxLists}
 use Rattle.model.specs.Outcome.{refused, done}
 use Rattle.model.specs.Post.{Post, post, docs}
-use Rattle.model.specs.Runs.{All, has}
-use Rattle.model.proofs.Lists.{split, or-false, All-map, Bytes}
+use Rattle.model.specs.Runs.{All, has, Bytes}
+use Rattle.model.proofs.Lists.{split, or-false, All-map}
 use Rattle.shelf.specs.Walk.{Listing, list, lists, postsOf, blocksAt, stripOf}
 use Rattle.shelf.specs.Check.{badBody, badLists, checked}
 use Rattle.shelf.specs.Answers.{Ready}

@@ -39,7 +39,7 @@ fn body_holds(s: &[u8], m: Summary, d: u32) -> bool
 }
 
 // Whether a list holds docid `d`: docids rise from block to block, so that only the first block whose greatest docid is not below it may.
-pub fn holds(s: &[u8], list: Place, d: u32) -> bool
+pub(crate) fn holds(s: &[u8], list: Place, d: u32) -> bool
     requires { ⌜ Sought (now s) list ⌝ }
     ensures { λ r. ⌜ r ≡ has d (docs (postsAt (now (s .entry)) list)) ⌝ }
 {

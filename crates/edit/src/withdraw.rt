@@ -133,7 +133,7 @@ fn withdraw_in(s: &[u8], docid: u32, docs: &mut [u32], scores: &mut [u16], out: 
     Answer::Done(put_all(s, docid, docs, scores, out))
 }
 
-pub fn withdraw_sound(s: &[u8], docid: u32, out: &mut [u8]) -> Answer
+pub(crate) fn withdraw_sound(s: &[u8], docid: u32, out: &mut [u8]) -> Answer
     requires { ⌜ Sounds (now s) ⌝ }
     ensures { λ r. ⌜ ((ls : List Listing) → checked (now (s .entry)) ≡ done ls → Gives (settled (Withdraw docid) (pieces (now (s .entry)) ls) (length (now (out .entry)))) (now (out .entry)) (now (out .exit)) r) ⌝ }
 {

@@ -4,7 +4,7 @@ ghost use Rattle.embed.specs.Report.{Reports};
 use list::answer::Answer;
 
 // Returns the refusal's number, or 0; stores its offset, or how many elements were written.
-pub fn tell(answer: Answer, value: &mut u64) -> u32
+pub(crate) fn tell(answer: Answer, value: &mut u64) -> u32
     ensures { λ r. ⌜ Reports (paper answer) r (now (value .exit)) ⌝ }
 {
     match answer {

@@ -9,7 +9,7 @@ use list::answer::Answer;
 use rank::keep::Kept;
 
 // The shorter of two lengths.
-pub fn shorter(a: usize, b: usize) -> usize
+pub(crate) fn shorter(a: usize, b: usize) -> usize
     ensures { λ r. ⌜ r ≡ min a b ⌝ }
 {
     if a <= b { a } else { b }
@@ -27,7 +27,7 @@ fn put_rows(kept: Kept, docids: &mut [u32], scores: &mut [u32]) -> usize
 }
 
 // A ranker's answer as C gets it: the hits in front of two runs that have room for them, and how many there are; a refusal touches neither run.
-pub fn tell_hits(
+pub(crate) fn tell_hits(
     verdict: Verdict,
     kept: Kept,
     docids: &mut [u32],

@@ -8,7 +8,7 @@ use lib.ListN.{length, take, drop, length-map}
 use borrow.Author.Tests.{le-leb, lt-leb}
 use Rattle.model.specs.Limits.{maxTerms, maxK}
 use Rattle.model.specs.Outcome.{Outcome, refused, done}
-use Rattle.model.proofs.Lists.{Bytes}
+use Rattle.model.specs.Runs.{Bytes}
 use Rattle.model.proofs.Storing.{holds-take}
 use Rattle.query.specs.Query.{Question, asked, weightsOf, termsOf as askedTerms}
 use Rattle.query.specs.Answers.{Carries, Tells, zeros as noTerms}

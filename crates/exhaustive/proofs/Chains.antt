@@ -8,8 +8,8 @@ use lib.ListN.{length, drop, length-drop}
 use lib.Dec.{leb, ltb}
 use borrow.Author.Tests.{leb-true, ltb-true}
 use Rattle.model.specs.Limits.{maxDocid, perBlock}
-use Rattle.model.specs.Runs.{All}
-use Rattle.model.proofs.Lists.{and-true, Bytes, bytes-drop}
+use Rattle.model.specs.Runs.{All, Bytes}
+use Rattle.model.proofs.Lists.{and-true, bytes-drop}
 use Rattle.wire.specs.Field.{fieldLen}
 use Rattle.wire.proofs.Numbers.{num-below}
 use Rattle.block.specs.Body.{isStrip}

@@ -9,8 +9,8 @@ use lib.Dec.{ltb, leb}
 use borrow.Author.Tests.{le-ltb, lt-ltb, ltb-true, ltb-false, leb-true, leb-false}
 use Rattle.model.specs.Limits.{maxDocid}
 use Rattle.model.specs.Post.{Post, docs, Rising}
-use Rattle.model.specs.Runs.{All}
-use Rattle.model.proofs.Lists.{split, All-map, All-image, Bytes}
+use Rattle.model.specs.Runs.{All, Bytes}
+use Rattle.model.proofs.Lists.{split, All-map, All-image}
 use Rattle.model.proofs.Runs.{asc-all}
 use Rattle.shelf.specs.Blocks.{blocksLeft}
 use Rattle.rank.specs.Rank.{Hit}

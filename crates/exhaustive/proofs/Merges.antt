@@ -7,7 +7,7 @@ use native.Mathlib.Omega.{arith}
 use lib.ListN.{length, length-map}
 use Rattle.model.specs.Limits.{maxTerms, maxK}
 use Rattle.model.specs.Outcome.{done}
-use Rattle.model.proofs.Lists.{Bytes}
+use Rattle.model.specs.Runs.{Bytes}
 use Rattle.rank.specs.Rank.{Hit, keep, keeps, ranking, Ordered}
 use Rattle.rank.specs.Match.{Term, anyList, hitsOf}
 use Rattle.rank.specs.Keep.{keptOf}

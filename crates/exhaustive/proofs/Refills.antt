@@ -10,8 +10,7 @@ use borrow.Author.Tests.{lt-ltb, le-ltb}
 use Rattle.model.specs.Limits.{maxDocid}
 use Rattle.model.specs.Outcome.{refused, done}
 use Rattle.model.specs.Post.{Post, post}
-use Rattle.model.specs.Runs.{All}
-use Rattle.model.proofs.Lists.{Bytes}
+use Rattle.model.specs.Runs.{All, Bytes}
 use Rattle.block.specs.Body.{rightBody, bodyRun}
 use Rattle.block.specs.declared.summary.Summary.{Summary}
 use Rattle.block.proofs.Contents.{right-run}

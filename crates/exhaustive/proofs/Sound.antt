@@ -18,14 +18,10 @@ use Rattle.lookup.specs.Gather.{termBlocks}
 use Rattle.lookup.proofs.Stands.{term-has}
 use Rattle.query.specs.Query.{Asked, Question, asked}
 use Rattle.rank.specs.Rank.{ranking}
-use Rattle.rank.specs.Match.{Term, anyList, hitsOf}
+use Rattle.rank.specs.Match.{anyList, hitsOf}
 use Rattle.prune.specs.Prune.{postsOf, termsOf, faultIn, faultAll}
-use Rattle.exhaustive.specs.Lists.{blockOf, listingsOf}
+use Rattle.exhaustive.specs.Lists.{blockOf, listingsOf, termOn}
 use Rattle.exhaustive.specs.Exhaustive.{rankAll}
-
--- a term that is asked, with its list's postings
-abbrev pub termOn : List shelf.Listing → Asked → Term
-termOn ls a = record { weight = a .weight; posts = shelf.postsOf (termBlocks (a .term) ls) }
 
 right-blocks : (bs : List shelf.Block) → badBody bs ≡ NoBad → (postsOf (map blockOf bs) ≡ shelf.postsOf bs) × (faultIn (map blockOf bs) ≡ none)
 right-blocks [] e = (refl, refl)

@@ -8,8 +8,8 @@ use lib.Dec.{ltb}
 use borrow.Author.Tests.{ne-eqb, le-ltb}
 use Rattle.model.specs.Limits.{maxDocid}
 use Rattle.model.specs.Post.{Post, docs, Rising}
-use Rattle.model.specs.Runs.{All, has, Asc}
-use Rattle.model.proofs.Lists.{split, All-append, All-image, Bytes}
+use Rattle.model.specs.Runs.{All, has, Asc, Bytes}
+use Rattle.model.proofs.Lists.{split, All-append, All-image}
 use Rattle.block.specs.Body.{rightBody, bodyRun}
 use Rattle.block.proofs.Runs.{run-few, run-rises}
 use Rattle.shelf.specs.Walk as shelf

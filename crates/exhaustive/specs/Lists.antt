@@ -7,6 +7,7 @@ use Rattle.block.specs.Body.{rightBody, bodyRun}
 use Rattle.shelf.specs.Walk as shelf
 use Rattle.lookup.specs.Gather.{termBlocks}
 use Rattle.query.specs.Query.{Asked}
+use Rattle.rank.specs.Match.{Term}
 use Rattle.prune.specs.Cut.{Block, Listing}
 
 -- "8: wrong body: its tag"; a right body is its postings
@@ -22,3 +23,7 @@ listingOf ls a = record { weight = a .weight; blocks = map blockOf (termBlocks (
 
 abbrev pub listingsOf : List Asked → List shelf.Listing → List Listing
 listingsOf xs ls = map (listingOf ls) xs
+
+-- a term that is asked, with the postings that the shelf holds for it
+abbrev pub termOn : List shelf.Listing → Asked → Term
+termOn ls a = record { weight = a .weight; posts = shelf.postsOf (termBlocks (a .term) ls) }

@@ -19,7 +19,7 @@ pub enum Supply {
 }
 
 // The blocks of a list that was walked; none for a term that has no list.
-pub fn reading_at(at: usize, count: u8) -> Reading
+pub(crate) fn reading_at(at: usize, count: u8) -> Reading
     requires { ⌜ (0 < count → at + 8 + 12 * count < 2 ^ 64) ⌝ }
     ensures { λ r. ⌜ r ≡ readingAt at count ⌝ }
 {
@@ -79,7 +79,7 @@ pub struct Filled {
 }
 
 // Every list that has come to the end of its block goes on to its next, up to the first wrong body.
-pub fn fill(
+pub(crate) fn fill(
     shelf: &[u8],
     heads: [Head; 8],
     lefts: [Left; 8],
@@ -130,7 +130,7 @@ fn nearer_of(head: Head, left: Left, last: u32) -> u32
 }
 
 // Up to where the documents can be merged: past it some list that stands needs its next block. Past all docids where no list stands.
-pub fn horizon(heads: [Head; 8], lefts: [Left; 8]) -> u32
+pub(crate) fn horizon(heads: [Head; 8], lefts: [Left; 8]) -> u32
     ensures { λ r. ⌜ r ≡ horizonOf heads lefts ⌝ }
 {
     let mut last = scan::head::END;

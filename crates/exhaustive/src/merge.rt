@@ -57,7 +57,13 @@ fn open_all(ats: [usize; 8], counts: [u8; 8], weights: [u8; 8]) -> Opened
 }
 
 // The k best documents of the lists. A run goes up to where the first list needs its next block; then the lists go on to their next blocks.
-pub fn merge(shelf: &[u8], ats: [usize; 8], counts: [u8; 8], weights: [u8; 8], k: usize) -> Merged
+pub(crate) fn merge(
+    shelf: &[u8],
+    ats: [usize; 8],
+    counts: [u8; 8],
+    weights: [u8; 8],
+    k: usize,
+) -> Merged
     requires { ⌜ Mergeable (now shelf) ats counts k ⌝ }
     ensures { λ r. ⌜ Merges (now (shelf .entry)) ats counts weights k r ⌝ }
 {

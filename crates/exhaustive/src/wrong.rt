@@ -62,7 +62,7 @@ fn wrong_in(shelf: &[u8], blocks: Reading, before: WrongBody) -> WrongBody
 }
 
 // The first of all lists.
-pub fn first_wrong(shelf: &[u8], ats: [usize; 8], counts: [u8; 8]) -> WrongBody
+pub(crate) fn first_wrong(shelf: &[u8], ats: [usize; 8], counts: [u8; 8]) -> WrongBody
     requires { ⌜ AllWalked (now shelf) ats counts × Addressed ats counts ⌝ }
     ensures { λ r. ⌜ wrongOf r ≡ faultLeft (now (shelf .entry)) (startLefts ats counts) ⌝ }
 {

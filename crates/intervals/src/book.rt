@@ -19,7 +19,7 @@ fn start_at(cuts: &[u32], i: usize) -> u32
 }
 
 // The first docids of the intervals that `n` cuts make.
-pub fn fill_firsts(cuts: &[u32], n: usize, firsts: &mut [u32])
+pub(crate) fn fill_firsts(cuts: &[u32], n: usize, firsts: &mut [u32])
     requires { ⌜ (n ≤ length (now cuts)) × (n < length (now firsts)) ⌝ }
     ensures { λ _. ⌜ Holds (now (firsts .entry)) (take (n + 1) (1 ∷ now (cuts .entry))) (now (firsts .exit)) (n + 1) ⌝ }
 {
@@ -31,7 +31,7 @@ pub fn fill_firsts(cuts: &[u32], n: usize, firsts: &mut [u32])
 }
 
 // The ceilings, in a run of zeros: raised by one list after another.
-pub fn fill_ceilings(
+pub(crate) fn fill_ceilings(
     starts: &[u32],
     ends: &[usize],
     los: &[u32],
@@ -55,7 +55,7 @@ pub fn fill_ceilings(
 }
 
 // The marks from one place up to another.
-pub fn mark_all(marks: &mut [u8], from: usize, upto: usize, mark: u8)
+pub(crate) fn mark_all(marks: &mut [u8], from: usize, upto: usize, mark: u8)
     requires { ⌜ (from ≤ upto) × (upto ≤ length (now marks)) ⌝ }
     ensures { λ _. ⌜ now (marks .exit) ≡ sets (now (marks .entry)) from (replicate (upto - from) mark) ⌝ }
 {
@@ -67,7 +67,13 @@ pub fn mark_all(marks: &mut [u8], from: usize, upto: usize, mark: u8)
 }
 
 // The intervals that are skipped, marked so, up to the first that is opened.
-pub fn skip_shut(ceilings: &[u32], n: usize, kth: u32, from: usize, marks: &mut [u8]) -> usize
+pub(crate) fn skip_shut(
+    ceilings: &[u32],
+    n: usize,
+    kth: u32,
+    from: usize,
+    marks: &mut [u8],
+) -> usize
     requires { ⌜ (from ≤ n) × (n ≤ length (now ceilings)) × (n ≤ length (now marks)) ⌝ }
     ensures { λ r. ⌜ Skips (now (ceilings .entry)) n kth from (now (marks .entry)) (now (marks .exit)) r ⌝ }
 {

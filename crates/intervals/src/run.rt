@@ -80,7 +80,7 @@ fn kth_of(kept: Kept, k: usize) -> u32
 }
 
 // Each interval in turn, from the blocks that the walk has seen to.
-pub fn over_intervals(
+pub(crate) fn over_intervals(
     shelf: &[u8],
     ends: &[usize],
     los: &[u32],

@@ -18,7 +18,7 @@ fn put_line(out: &mut [u8], at: usize, letter: &[u8], ns: &[u64], end: &[u8]) ->
 }
 
 // `H rank docid score`
-pub fn put_hit(out: &mut [u8], at: usize, rank: usize, docid: u32, score: u32) -> usize
+pub(crate) fn put_hit(out: &mut [u8], at: usize, rank: usize, docid: u32, score: u32) -> usize
     requires { ⌜ at + length (hitLine rank (post docid score)) ≤ length (now out) ⌝ }
     ensures { λ r. ⌜ Stored (now (out .entry)) (now (out .exit)) at r (hitLine rank (post docid score)) ⌝ }
 {
@@ -27,7 +27,7 @@ pub fn put_hit(out: &mut [u8], at: usize, rank: usize, docid: u32, score: u32) -
 }
 
 // `I first last ceiling mark`
-pub fn put_interval(
+pub(crate) fn put_interval(
     out: &mut [u8],
     at: usize,
     first: u32,
@@ -46,7 +46,7 @@ pub fn put_interval(
 }
 
 // `B opened all`
-pub fn put_blocks(out: &mut [u8], at: usize, opened: usize, all: usize) -> usize
+pub(crate) fn put_blocks(out: &mut [u8], at: usize, opened: usize, all: usize) -> usize
     requires { ⌜ at + length (blockLine opened all) ≤ length (now out) ⌝ }
     ensures { λ r. ⌜ Stored (now (out .entry)) (now (out .exit)) at r (blockLine opened all) ⌝ }
 {

@@ -8,7 +8,7 @@ ghost use Rattle.lines.specs.Text.{decimal, numbers};
 // The code of the digit 0; the other digits come after it.
 const ZERO: u8 = 48;
 
-pub fn put_word(out: &mut [u8], at: usize, word: &[u8]) -> usize
+pub(crate) fn put_word(out: &mut [u8], at: usize, word: &[u8]) -> usize
     requires { ⌜ at + length (now word) ≤ length (now out) ⌝ }
     ensures { λ r. ⌜ Stored (now (out .entry)) (now (out .exit)) at r (now (word .entry)) ⌝ }
 {
@@ -23,7 +23,7 @@ pub fn put_word(out: &mut [u8], at: usize, word: &[u8]) -> usize
 }
 
 // The digits before the last by the same function, then the last.
-pub fn put_number(out: &mut [u8], at: usize, n: u64) -> usize
+pub(crate) fn put_number(out: &mut [u8], at: usize, n: u64) -> usize
     requires { ⌜ at + length (decimal n) ≤ length (now out) ⌝ }
     ensures { λ r. ⌜ Stored (now (out .entry)) (now (out .exit)) at r (decimal n) ⌝ }
 {
@@ -35,7 +35,7 @@ pub fn put_number(out: &mut [u8], at: usize, n: u64) -> usize
 }
 
 // Each number with a blank in front.
-pub fn put_numbers(out: &mut [u8], at: usize, ns: &[u64]) -> usize
+pub(crate) fn put_numbers(out: &mut [u8], at: usize, ns: &[u64]) -> usize
     requires { ⌜ at + length (numbers (now ns)) ≤ length (now out) ⌝ }
     ensures { λ r. ⌜ Stored (now (out .entry)) (now (out .exit)) at r (numbers (now (ns .entry))) ⌝ }
 {

@@ -11,7 +11,7 @@ ghost use Rattle.lines.specs.Text.{hitLines, intervalLines, lastOf, show
 ghost use Rattle.lines.specs.Book.{Book};
 
 // The keeper's first n rows, ranked from 1.
-pub fn put_hits<'a>(
+pub(crate) fn put_hits<'a>(
     out: &mut [u8],
     at: usize,
     docids: &'a [u32; 100],
@@ -43,7 +43,7 @@ fn last_docid(firsts: &[u32], i: usize) -> u32
 }
 
 // The book's rows, one for each interval.
-pub fn put_intervals<'a>(
+pub(crate) fn put_intervals<'a>(
     out: &mut [u8],
     at: usize,
     firsts: &'a [u32],

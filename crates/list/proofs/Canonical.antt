@@ -11,8 +11,8 @@ use lib.Seq.{drop-drop}
 use Rattle.model.specs.Limits.{maxDocid, perBlock, perList}
 use Rattle.model.specs.Outcome.{Outcome, refused, done, andThen}
 use Rattle.model.specs.Post.{Post, post, lastDoc, topScore}
-use Rattle.model.specs.Runs.{All}
-use Rattle.model.proofs.Lists.{split, and-true, Bytes, bytes-drop, bytes-take}
+use Rattle.model.specs.Runs.{All, Bytes}
+use Rattle.model.proofs.Lists.{split, and-true, bytes-drop, bytes-take}
 use Rattle.wire.specs.Read.{Read, got, stopped, further}
 use Rattle.wire.specs.Number.{num, be}
 use Rattle.wire.specs.Field.{whole, fieldLen, fieldValue, fieldBytes}

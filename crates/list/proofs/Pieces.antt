@@ -8,7 +8,7 @@ use lib.ListN.{length, take}
 use Rattle.model.specs.Limits.{perList}
 use Rattle.model.specs.Outcome.{done}
 use Rattle.model.specs.Post.{Post}
-use Rattle.model.proofs.Lists.{Bytes}
+use Rattle.model.specs.Runs.{Bytes}
 use Rattle.shelf.specs.Walk.{Listing, postsOf, stripOf, list}
 use Rattle.shelf.specs.Check.{badBody}
 use Rattle.shelf.specs.declared.check.BadRead.the-variants.{NoBad}

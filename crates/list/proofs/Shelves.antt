@@ -6,8 +6,8 @@ use mathlib.Core.List.{List, [], _∷_}
 use lib.ListN.{length, drop}
 use Rattle.model.specs.Limits.{maxLists, maxShelf}
 use Rattle.model.specs.Outcome.{Outcome, refused, done, andThen}
-use Rattle.model.specs.Runs.{All}
-use Rattle.model.proofs.Lists.{Bytes, bytes-drop}
+use Rattle.model.specs.Runs.{All, Bytes}
+use Rattle.model.proofs.Lists.{bytes-drop}
 use Rattle.shelf.specs.Walk.{Listing, list, onto, lists}
 use Rattle.shelf.specs.Check.{badBody, badLists, checked}
 use Rattle.shelf.specs.declared.check.BadRead.the-variants.{NoBad}

@@ -8,8 +8,8 @@ use lib.Seq.{take-all, take-at, drop-at}
 use Rattle.model.specs.Limits.{maxDocid}
 use Rattle.model.specs.Outcome.{done}
 use Rattle.model.specs.Post.{Post, postings, docs, scores, Rising, Scored, lastDoc}
-use Rattle.model.specs.Runs.{All}
-use Rattle.model.proofs.Lists.{All-append, Bytes, map-length}
+use Rattle.model.specs.Runs.{All, Bytes}
+use Rattle.model.proofs.Lists.{All-append, map-length}
 use Rattle.model.proofs.Posts.{last-append, rising-join}
 use Rattle.shelf.specs.Walk.{Block, Listing, postsOf, stripOf, list}
 use Rattle.shelf.specs.Check.{badBody}

@@ -14,7 +14,7 @@ use shelf::check::BadRead;
 use shelf::walk::Place;
 
 // How many postings a list's summaries say it has.
-pub fn count(s: &[u8], list: Place) -> usize
+pub(crate) fn count(s: &[u8], list: Place) -> usize
     requires { ⌜ Ready (now s) list ⌝ }
     ensures { λ r. ⌜ r ≡ countOf (blocksAt (now (s .entry)) (list .at) (list .count)) ⌝ }
 {

@@ -9,7 +9,7 @@ use lib.ListN.{length, take, drop, getD, set, drop-of-length-le}
 use lib.Dec.{eqb}
 use lib.Seq.{drop-cons, getD-drop}
 use borrow.Author.Tests.{eqb-true, eqb-false}
-use Rattle.model.specs.Runs.{All}
+use Rattle.model.specs.Runs.{All, Bytes}
 
 -- A test's two cases, each with its equation
 pub split {ℓ} : {C : Type ℓ} (t : Bool) → (t ≡ true → C) → (t ≡ false → C) → C
@@ -135,10 +135,6 @@ rest-cons s at h = rw (add-one, drop-cons s at 0)
 
 pub rest-none : (s : List ℕ) (at : ℕ) → length s ≤ at → drop at s ≡ []
 rest-none s at h = drop-of-length-le s h
-
--- every element is a byte; past the end it is 0
-abbrev pub Bytes : List ℕ → Type 0
-Bytes l = (i : ℕ) → getD l i 0 < 256
 
 pub bytes-drop : (k : ℕ) (l : List ℕ) → Bytes l → Bytes (drop k l)
 bytes-drop k l h i = rw (getD-drop k l i 0) (h (k + i))

@@ -12,8 +12,8 @@ use borrow.Author.Tests.{lt-ltb, le-ltb, ltb-true, ltb-false, eqb-true, eqb-fals
 use Rattle.model.specs.Limits.{maxTerms}
 use Rattle.model.specs.Post.{Post, docs, scores, Rising}
 use Rattle.model.specs.Outcome.{Outcome, refused, done}
-use Rattle.model.specs.Runs.{Asc}
-use Rattle.model.proofs.Lists.{split, Bytes, bytes-drop, bytes-take}
+use Rattle.model.specs.Runs.{Asc, Bytes}
+use Rattle.model.proofs.Lists.{split, bytes-drop, bytes-take}
 use Rattle.wire.specs.Field.{fieldLen, fieldValue}
 use Rattle.block.specs.Body.{rightBody, bodyRun}
 use Rattle.block.proofs.Contents.{right-body, run-all}

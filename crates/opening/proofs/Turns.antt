@@ -9,8 +9,8 @@ use lib.ListN.{length, getD, length-map}
 use borrow.Author.Tests.{le-ltb, lt-ltb, eqb-false}
 use Rattle.model.specs.Limits.{maxTerms}
 use Rattle.model.specs.Post.{Post, docs}
-use Rattle.model.specs.Runs.{All, Asc}
-use Rattle.model.proofs.Lists.{split, Bytes, All-image, getD-map}
+use Rattle.model.specs.Runs.{All, Asc, Bytes}
+use Rattle.model.proofs.Lists.{split, All-image, getD-map}
 use Rattle.block.specs.Body.{rightBody}
 use Rattle.rank.specs.Rank.{Hit, keeps}
 use Rattle.rank.specs.Match.{Term, Rule, anyList, hitsOf, within}

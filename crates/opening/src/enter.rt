@@ -118,7 +118,7 @@ pub struct Entrance {
 }
 
 // All lists in an interval that meets the blocks `mets`, where they read the blocks `was`.
-pub fn enter_all(
+pub(crate) fn enter_all(
     shelf: &[u8],
     los: &[u32],
     his: &[u32],

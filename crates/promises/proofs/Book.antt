@@ -24,7 +24,7 @@ use Rattle.prune.specs.Prune.{never, spanOf, termsOf, pruned, book, chosen, cou
 use Rattle.prune.proofs.Parts.{exactly-one, firsts, at-most, same-blocks, same-ceiling, smallest, Apart, neighbours}
 use Rattle.prune.proofs.Goods.{score-ceiling}
 use Rattle.prune.proofs.Prunes.{markOf, book-marks, skip-exactly, never-barring}
-use Rattle.exhaustive.proofs.Sound.{termOn}
+use Rattle.exhaustive.specs.Lists.{termOn}
 use Rattle.pruned.specs.Pruned.{Answer, front, answer, searched}
 use Rattle.pruned.proofs.Endings.{book-long}
 use Rattle.promises.specs.Served.{listsFor, intervalCount, matchesFor, Asks, Room}

@@ -14,7 +14,7 @@ use Rattle.change.specs.Bytes.{edited}
 use Rattle.rank.specs.Rank.{Hit}
 use Rattle.rank.specs.Match.{Term, scoreOf, anyList, matches, hitAt}
 use Rattle.rank.proofs.Matches.{any-matches}
-use Rattle.exhaustive.proofs.Sound.{termOn}
+use Rattle.exhaustive.specs.Lists.{termOn}
 use Rattle.lines.specs.Text.{refusalLine}
 use Rattle.report.specs.Report.{reported}
 use Rattle.convert.specs.Convert.{converted}

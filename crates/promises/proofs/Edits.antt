@@ -10,7 +10,8 @@ use borrow.Author.Tests.{ltb-true, ltb-false, eqb-true, eqb-false}
 use lib.Dec.{ltb, eqb}
 use Rattle.model.specs.Outcome.{done}
 use Rattle.model.specs.Post.{Post}
-use Rattle.model.proofs.Lists.{split, Bytes}
+use Rattle.model.specs.Runs.{Bytes}
+use Rattle.model.proofs.Lists.{split}
 use Rattle.shelf.specs.Walk.{Listing, postsOf}
 use Rattle.shelf.specs.Check.{checked}
 use Rattle.lookup.specs.Gather.{termList, termBlocks}
@@ -26,7 +27,7 @@ use Rattle.edit.proofs.Histories.{history}
 use Rattle.query.specs.Query.{Asked, Question, asked}
 use Rattle.rank.specs.Rank.{Hit, ranking}
 use Rattle.rank.specs.Match.{anyList, hitsOf}
-use Rattle.exhaustive.proofs.Sound.{termOn}
+use Rattle.exhaustive.specs.Lists.{termOn}
 use Rattle.pruned.specs.Pruned.{searched}
 use Rattle.promises.specs.Served.{matchesFor, Asks, Room}
 use Rattle.promises.specs.Book.{Booked}

@@ -8,8 +8,8 @@ use mathlib.Core.List.{List, [], _∷_, map}
 use lib.ListN.{length, length-map}
 use Rattle.model.specs.Limits.{maxDocid, maxTerms, perList}
 use Rattle.model.specs.Post.{Post, Rising, lastDoc, topScore}
-use Rattle.model.specs.Runs.{All}
-use Rattle.model.proofs.Lists.{All-map, All-both, All-image, Bytes}
+use Rattle.model.specs.Runs.{All, Bytes}
+use Rattle.model.proofs.Lists.{All-map, All-both, All-image}
 use Rattle.model.proofs.Posts.{rising-last, last-any}
 use Rattle.block.specs.Summary.{rightSum}
 use Rattle.block.specs.Body.{rightBody, bodyRun}
@@ -29,9 +29,9 @@ use Rattle.query.proofs.Accepted.{accepted-in-range}
 use Rattle.rank.proofs.Withins.{rising-above}
 use Rattle.prune.specs.Cut.{Listing}
 use Rattle.prune.specs.Prune.{termsOf, Right, Good, GoodList}
-use Rattle.exhaustive.specs.Lists.{blockOf, listingOf}
+use Rattle.exhaustive.specs.Lists.{blockOf, listingOf, termOn}
 use Rattle.exhaustive.proofs.Chains.{sum-facts, left-low}
-use Rattle.exhaustive.proofs.Sound.{termOn, lists-right}
+use Rattle.exhaustive.proofs.Sound.{lists-right}
 use Rattle.promises.specs.Served.{Asks, listsFor}
 
 -- ---- the postings of a right body keep to its summary

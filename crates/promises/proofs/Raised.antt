@@ -25,7 +25,7 @@ use Rattle.query.proofs.Accepted.{accepted-in-range}
 use Rattle.rank.specs.Rank.{Hit, ranking}
 use Rattle.rank.specs.Match.{Term, stored, scoreOf, holds, some, anyList, matches, hitAt, hitsOf}
 use Rattle.rank.proofs.Matches.{any-matches}
-use Rattle.exhaustive.proofs.Sound.{termOn}
+use Rattle.exhaustive.specs.Lists.{termOn}
 use Rattle.pruned.specs.Pruned.{searched}
 use Rattle.promises.specs.Served.{matchesFor, Asks, Room}
 use Rattle.promises.specs.Edits.{postsIn, Accepted, Shown}

@@ -8,8 +8,8 @@ use lib.ListN.{length, drop, length-drop}
 use lib.Seq.{length-take-le}
 use Rattle.model.specs.Outcome.{refused, done}
 use Rattle.model.specs.Post.{Post, docs, scores}
-use Rattle.model.specs.Runs.{All}
-use Rattle.model.proofs.Lists.{split, Bytes, bytes-drop}
+use Rattle.model.specs.Runs.{All, Bytes}
+use Rattle.model.proofs.Lists.{split, bytes-drop}
 use Rattle.shelf.specs.Walk.{Block, Listing, postsOf, stripOf, list, lists}
 use Rattle.shelf.specs.Check.{badBody, badLists, checked}
 use Rattle.lookup.specs.Find.{findOf, found}

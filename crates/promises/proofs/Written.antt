@@ -7,8 +7,8 @@ use borrow.Author.Tests.{ltb-true}
 use lib.Dec.{ltb}
 use lib.ListN.{length}
 use Rattle.model.specs.Post.{Post}
-use Rattle.model.specs.Runs.{All}
-use Rattle.model.proofs.Lists.{split, All-append, Bytes}
+use Rattle.model.specs.Runs.{All, Bytes}
+use Rattle.model.proofs.Lists.{split, All-append}
 use Rattle.wire.specs.Number.{be}
 use Rattle.wire.specs.Field.{fieldBytes}
 use Rattle.wire.specs.Gap.{gapIn, gapBytes}

@@ -8,8 +8,7 @@ use mathlib.Core.List.{List, [], map}
 use lib.ListN.{length}
 use Rattle.model.specs.Outcome.{refused, done}
 use Rattle.model.specs.Post.{Post, docs, scores, postings}
-use Rattle.model.specs.Runs.{All, has}
-use Rattle.model.proofs.Lists.{Bytes}
+use Rattle.model.specs.Runs.{All, has, Bytes}
 use Rattle.shelf.specs.Walk.{Listing, stripOf}
 use Rattle.shelf.specs.Check.{checked, judged}
 use Rattle.lookup.specs.Find.{findOf, found, shownOf}
@@ -25,7 +24,7 @@ use Rattle.query.specs.Query.{Asked, Question, asked}
 use Rattle.rank.specs.Rank.{Hit, ranking}
 use Rattle.rank.specs.Match.{scoreOf, holds, some, hitAt}
 use Rattle.exhaustive.specs.Exhaustive.{rankAll}
-use Rattle.exhaustive.proofs.Sound.{termOn}
+use Rattle.exhaustive.specs.Lists.{termOn}
 use Rattle.pruned.specs.Pruned.{searched}
 use Rattle.lines.specs.Text.{refusalLine}
 use Rattle.report.specs.Report.{reported}

@@ -6,8 +6,7 @@ use mathlib.Core.List.{List, [], _∷_, map}
 use lib.Dec.{eqb}
 use Rattle.model.specs.Outcome.{Outcome, done}
 use Rattle.model.specs.Post.{Post}
-use Rattle.model.specs.Runs.{All}
-use Rattle.model.proofs.Lists.{Bytes}
+use Rattle.model.specs.Runs.{All, Bytes}
 use Rattle.shelf.specs.Walk.{Listing}
 use Rattle.shelf.specs.Check.{checked}
 use Rattle.list.specs.Write.{Word, wordsOf}

@@ -5,15 +5,14 @@ use mathlib.Core.List.{List, map}
 use lib.ListN.{length, take, drop}
 use Rattle.model.specs.Limits.{maxDocid}
 use Rattle.model.specs.Outcome.{done}
-use Rattle.model.proofs.Lists.{Bytes}
+use Rattle.model.specs.Runs.{Bytes}
 use Rattle.shelf.specs.Walk as shelf
 use Rattle.shelf.specs.Check.{checked}
 use Rattle.query.specs.Query.{Question, asked}
 use Rattle.rank.specs.Rank.{Hit}
 use Rattle.rank.specs.Match.{anyList, hitsOf}
 use Rattle.prune.specs.Cut.{Listing, starts}
-use Rattle.exhaustive.specs.Lists.{listingsOf}
-use Rattle.exhaustive.proofs.Sound.{termOn}
+use Rattle.exhaustive.specs.Lists.{listingsOf, termOn}
 
 -- the query's lists, with their blocks
 abbrev pub listsFor : Question → List shelf.Listing → List Listing

@@ -8,8 +8,8 @@ use lib.Dec.{ltb}
 use lib.ListN.{length, getD, drop, replicate, length-map, length-append, length-drop}
 use borrow.Author.Tests.{ltb-true, ltb-false}
 use Rattle.model.specs.Limits.{maxDocid, maxTerms, perList}
-use Rattle.model.specs.Runs.{All, Holds}
-use Rattle.model.proofs.Lists.{split, All-at, All-map, All-image, Bytes}
+use Rattle.model.specs.Runs.{All, Holds, Bytes}
+use Rattle.model.proofs.Lists.{split, All-at, All-map, All-image}
 use Rattle.block.specs.Body.{isStrip}
 use Rattle.shelf.specs.Walk as shelf
 use Rattle.shelf.specs.Walk.{blocksAt}

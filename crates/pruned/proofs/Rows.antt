@@ -11,8 +11,8 @@ use lib.Seq.{drop-drop}
 use borrow.Author.Tests.{eqb-true}
 use Rattle.model.specs.Limits.{maxDocid}
 use Rattle.model.specs.Outcome.{done}
-use Rattle.model.specs.Runs.{All}
-use Rattle.model.proofs.Lists.{split, All-both, Bytes}
+use Rattle.model.specs.Runs.{All, Bytes}
+use Rattle.model.proofs.Lists.{split, All-both}
 use Rattle.wire.specs.Field.{fieldLen, fieldValue}
 use Rattle.wire.proofs.Fields.{whole-size}
 use Rattle.block.specs.Summary.{sumOf}

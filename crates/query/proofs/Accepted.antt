@@ -6,8 +6,8 @@ use mathlib.Core.List.{List, []}
 use lib.ListN.{length, drop, length-drop}
 use Rattle.model.specs.Limits.{maxWeight}
 use Rattle.model.specs.Outcome.{Outcome, done, andThen}
-use Rattle.model.specs.Runs.{All}
-use Rattle.model.proofs.Lists.{Bytes, bytes-drop, All-both}
+use Rattle.model.specs.Runs.{All, Bytes}
+use Rattle.model.proofs.Lists.{bytes-drop, All-both}
 use Rattle.wire.specs.Number.{num}
 use Rattle.wire.proofs.Numbers.{num-below}
 use Rattle.query.specs.Query.{Asked, Question, termsIn, question, fieldCount, allRight, judge, asked}

@@ -8,7 +8,8 @@ use borrow.Author.Tests.{eqb-true}
 use lib.ListN.{length, take, drop, length-drop}
 use lib.Seq.{take-add, take-at, drop-drop}
 use Rattle.model.specs.Outcome.{done}
-use Rattle.model.proofs.Lists.{Bytes, bytes-drop, split, and-true}
+use Rattle.model.specs.Runs.{Bytes}
+use Rattle.model.proofs.Lists.{bytes-drop, split, and-true}
 use Rattle.wire.specs.Number.{num, be}
 use Rattle.wire.specs.Field.{whole, fieldLen, fieldValue, fieldBytes}
 use Rattle.wire.proofs.Numbers.{be-num, be-length}

@@ -54,7 +54,7 @@ fn judge_repeats(q: &[u8], n: usize) -> Verdict
 }
 
 // 2, 3, 4 and 5, each over the whole query before the next.
-pub fn judge_terms(q: &[u8], k: u8, n: usize) -> Verdict
+pub(crate) fn judge_terms(q: &[u8], k: u8, n: usize) -> Verdict
     requires { ⌜ termAt n ≤ length (now q) ⌝ }
     ensures { λ r. ⌜ paper r ≡ judge (length (now (q .entry))) (question k n (now (q .entry))) ⌝ }
 {

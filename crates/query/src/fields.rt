@@ -28,7 +28,7 @@ fn is_field(q: &[u8], at: usize, tag: u8, len: usize) -> bool
 }
 
 // Passes over all fields up to the query's end: number 1 is judged over the whole query before any other.
-pub fn count_fields(q: &[u8]) -> FieldsRead
+pub(crate) fn count_fields(q: &[u8]) -> FieldsRead
     ensures { λ r. ⌜ r ≡ fieldCount (now (q .entry)) ⌝ }
 {
     if !is_field(q, 0, TAG_K, 1) {
@@ -47,7 +47,7 @@ pub fn count_fields(q: &[u8]) -> FieldsRead
 }
 
 // The term of the term field with index `i`.
-pub fn term_of(q: &[u8], i: usize) -> u32
+pub(crate) fn term_of(q: &[u8], i: usize) -> u32
     requires { ⌜ termAt (i + 1) ≤ length (now q) ⌝ }
     ensures { λ r. ⌜ r ≡ askedIn (drop (termAt i) (now (q .entry))) .term ⌝ }
 {
@@ -55,7 +55,7 @@ pub fn term_of(q: &[u8], i: usize) -> u32
 }
 
 // Its weight.
-pub fn weight_of(q: &[u8], i: usize) -> u8
+pub(crate) fn weight_of(q: &[u8], i: usize) -> u8
     requires { ⌜ termAt (i + 1) ≤ length (now q) ⌝ }
     ensures { λ r. ⌜ r ≡ askedIn (drop (termAt i) (now (q .entry))) .weight ⌝ }
 {

@@ -43,7 +43,7 @@ impl Head {
     }
 
     // The head at its list's first posting from a docid on.
-    pub fn skipped(self, docs: &[u32; 800], scores: &[u16; 800], first: u32) -> Head
+    pub(crate) fn skipped(self, docs: &[u32; 800], scores: &[u16; 800], first: u32) -> Head
         requires { ⌜ InBuffers (now docs) (now scores) self × (first ≤ none) ⌝ }
         ensures { λ r. ⌜ Skipped (now (docs .entry)) (now (scores .entry)) first self r ⌝ }
     {

@@ -83,7 +83,12 @@ pub fn run(
 }
 
 // The heads at their lists' first postings from a docid on.
-pub fn skip_all(heads: [Head; 8], docs: &[u32; 800], scores: &[u16; 800], first: u32) -> [Head; 8]
+pub(crate) fn skip_all(
+    heads: [Head; 8],
+    docs: &[u32; 800],
+    scores: &[u16; 800],
+    first: u32,
+) -> [Head; 8]
     requires { ⌜ All (InBuffers (now docs) (now scores)) heads × OwnParts 0 heads × (first ≤ none) ⌝ }
     ensures { λ r. ⌜ AllSkipped (now (docs .entry)) (now (scores .entry)) first heads r ⌝ }
 {

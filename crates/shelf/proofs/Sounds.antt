@@ -8,7 +8,8 @@ use lib.Dec.{leb}
 use lib.ListN.{length, drop}
 use Rattle.model.specs.Outcome.{Outcome, refused, done, andThen}
 use Rattle.model.specs.Post.{Post, Rising, Scored, lastDoc}
-use Rattle.model.proofs.Lists.{split, All-append, Bytes, bytes-drop, bytes-take}
+use Rattle.model.specs.Runs.{Bytes}
+use Rattle.model.proofs.Lists.{split, All-append, bytes-drop, bytes-take}
 use Rattle.model.proofs.Posts.{rising-join, last-any}
 use Rattle.wire.specs.Field.{fieldLen, fieldValue}
 use Rattle.block.specs.Summary.{isSum, sumOf, rightSum}

@@ -9,7 +9,8 @@ use borrow.Author.Tests.{leb-true, eqb-true, le-leb, lt-leb, eq-eqb, ne-eqb}
 use lib.Dec.{leb, eqb}
 use lib.ListN.{length, getD, take, drop, length-append, length-drop, take-append-drop}
 use lib.Seq.{drop-drop, getD-drop, drop-at, length-take-le, take-append-seam, drop-append-seam}
-use Rattle.model.proofs.Lists.{Bytes, bytes-drop, split, and-true}
+use Rattle.model.specs.Runs.{Bytes}
+use Rattle.model.proofs.Lists.{bytes-drop, split, and-true}
 use Rattle.wire.specs.Number.{num, be}
 use Rattle.wire.specs.Field.{fieldLen, whole, fieldValue, fieldBytes, fieldAt}
 use Rattle.wire.specs.declared.field.FieldRead.the-variants.{Whole, Missing}

@@ -9,7 +9,8 @@ use mathlib.Core.Bool.{cond, _&&_}
 use borrow.Author.Tests.{ltb-true, ltb-false, leb-true, lt-ltb, le-ltb, le-leb, lt-leb, ne-eqb, eqb-false}
 use lib.ListN.{length, getD, drop, length-drop, length-append}
 use lib.Dec.{ltb, leb, eqb}
-use Rattle.model.proofs.Lists.{split, and-true, rest-cons, rest-none, Bytes}
+use Rattle.model.specs.Runs.{Bytes}
+use Rattle.model.proofs.Lists.{split, and-true, rest-cons, rest-none}
 use Rattle.wire.specs.Read.{Read, got, stopped}
 use Rattle.wire.specs.Number.{num, be}
 use Rattle.wire.specs.Gap.{more, gap, gapIn, gapBytes, score, gapPast, scorePast, gapAt, scoreAt}

@@ -6,7 +6,8 @@ use mathlib.Core.Path.{_≡_, refl, sym, ap, _∙_}
 use mathlib.Core.List.{List, [], _∷_, _++_, append-assoc, append-nil}
 use lib.ListN.{length, getD, take, drop, length-append, length-drop, take-append-drop}
 use lib.Seq.{take-suc, take-at, getD-drop, length-take-le}
-use Rattle.model.proofs.Lists.{Bytes, bytes-take}
+use Rattle.model.specs.Runs.{Bytes}
+use Rattle.model.proofs.Lists.{bytes-take}
 use Rattle.wire.specs.Number.{value, num, be}
 
 pub value-append : (v : ℕ) (s t : List ℕ) → value v (s ++ t) ≡ value (value v s) t

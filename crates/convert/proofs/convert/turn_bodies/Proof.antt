@@ -3,7 +3,7 @@ use native.Mathlib.Omega.{arith}
 use mathlib.Core.Path.{_≡_}
 use denote.Ref.{now}
 use borrow.Author.Needs.{needs}
-use Rattle.model.proofs.Lists.{Bytes}
+use Rattle.model.specs.Runs.{Bytes}
 use Rattle.shelf.specs.Walk.{stripOf}
 use Rattle.shelf.specs.Blocks.{blocksLeft, Steps}
 use Rattle.shelf.specs.declared.blocks.BlockStep.the-variants.{Block, Last}

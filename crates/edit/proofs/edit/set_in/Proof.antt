@@ -3,7 +3,7 @@ use denote.Ref.{now}
 use native.Mathlib.Omega.{arith}
 use borrow.Author.Needs.{needs}
 use lib.ListN.{length}
-use Rattle.model.proofs.Lists.{Bytes}
+use Rattle.model.specs.Runs.{Bytes}
 use Rattle.shelf.specs.Check.{checked}
 use Rattle.change.proofs.Pieces.{judged-lists}
 use Rattle.edit.proofs.Sittings.{Sits, sits, without-room, insert-room, set-chain, set-fits, runs-placeable, set-gives}

@@ -3,7 +3,7 @@ use mathlib.Core.Path.{_≡_}
 use native.Mathlib.Omega.{arith}
 use borrow.Author.Needs.{needs}
 use denote.Ref.{now}
-use Rattle.model.proofs.Lists.{Bytes}
+use Rattle.model.specs.Runs.{Bytes}
 use Rattle.shelf.specs.Blocks.{Steps}
 use Rattle.shelf.specs.declared.blocks.BlockStep.the-variants.{Block, Last}
 use Rattle.scan.specs.declared.load.Loaded.the-variants.{Stands, Wrong}

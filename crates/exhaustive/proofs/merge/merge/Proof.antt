@@ -8,7 +8,7 @@ use native.Mathlib.Omega.{arith}
 use borrow.Author.Needs.{needs}
 use denote.Ref.{now}
 use lib.ListN.{length}
-use Rattle.model.proofs.Lists.{Bytes}
+use Rattle.model.specs.Runs.{Bytes}
 use Rattle.rank.specs.Run.{none, size}
 use Rattle.prune.specs.Prune.{termsOf, faultAll}
 use Rattle.scan.specs.Heads.{roomy, terms}

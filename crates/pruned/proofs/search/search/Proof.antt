@@ -6,7 +6,7 @@ use native.Mathlib.Omega.{arith}
 use borrow.Author.Needs.{needs}
 use denote.Ref.{now}
 use Rattle.model.specs.Outcome.{done}
-use Rattle.model.proofs.Lists.{Bytes}
+use Rattle.model.specs.Runs.{Bytes}
 use Rattle.query.specs.Query.{Question, asked}
 use Rattle.query.specs.Answers.{Carries}
 use Rattle.query.specs.Range.{InRange}
