@@ -2,7 +2,7 @@
 use Prim.Native.Nat.{ℕ, zero, suc, _+_, _*_, _-_, _/_, _%_, _^_, _≤_, _<_}
 use native.Mathlib.Omega.{arith}
 use native.Mathlib.Numerals.{sub-one}
-use native.Mathlib.Nat.{add-zero, pow-succ', pow-le-pow-right, lt-of-lt-of-le, one-le-pow}
+use native.Mathlib.Nat.{add-zero, mul-add, mul-assoc, pow-succ', pow-le-pow-right, lt-of-lt-of-le, one-le-pow}
 use mathlib.Core.Path.{_≡_, refl, sym, ap, ap₂}
 use mathlib.Core.List.{List, [], _∷_, _++_}
 use mathlib.Core.Bool.{cond, _&&_}
@@ -10,7 +10,7 @@ use borrow.Author.Tests.{ltb-true, ltb-false, leb-true, lt-ltb, le-ltb, le-leb, 
 use lib.ListN.{length, getD, drop, length-drop, length-append}
 use lib.Dec.{ltb, leb, eqb}
 use Rattle.model.specs.Runs.{Bytes}
-use Rattle.model.proofs.Lists.{split, and-true, rest-cons, rest-none}
+use Rattle.model.proofs.Lists.{split, and-true, and-false, rest-cons, rest-none}
 use Rattle.wire.specs.Read.{Read, got, stopped}
 use Rattle.wire.specs.Number.{num, be}
 use Rattle.wire.specs.Gap.{more, gap, gapIn, gapBytes, score, gapPast, scorePast, gapAt, scoreAt}
@@ -51,6 +51,53 @@ unfolding gapAt gap
 gap-more zero s at z h l = absurd (z refl)
 gap-more (suc n) s at z h l =
     rw (sub-one, rest-cons s at h, le-ltb (getD s at 0) 128 l) (past-more (getD s at 0) at (gap n (drop (at + 1) s)))
+
+-- ---- the same, byte after byte
+
+-- the number at `at`, where its bytes before `i` are worth v, and a one of what is read at `i` is worth `unit`
+abbrev pub wholeAt : (at i v unit : ℕ) → GapRead → GapRead
+wholeAt at i v unit (Gap w p) = cond (eqb w 0 && ltb at i) (NoGap at) (Gap (v + unit * w) p)
+wholeAt at i v unit (NoGap p) = NoGap at
+
+-- what does not read as a number is at fault where it begins
+abbrev AtFront : Read ℕ → Type 0
+AtFront (got v k) = Unit {0}
+AtFront (stopped k) = k ≡ 0
+
+at-front-more : (b : ℕ) (r : Read ℕ) → AtFront (more b r)
+unfolding more
+at-front-more b (got v k) = split (eqb v 0) (λ e. rw e refl) (λ e. rw e tt)
+at-front-more b (stopped k) = refl
+
+at-front : (n : ℕ) (s : List ℕ) → AtFront (gap n s)
+unfolding gap
+at-front zero s = refl
+at-front (suc n) [] = refl
+at-front (suc n) (b ∷ s) = split (ltb b 128) (λ e. rw e tt) (λ e. rw e (at-front-more b (gap n s)))
+
+pub whole-start : (n : ℕ) (s : List ℕ) (at : ℕ) → gapAt n s at ≡ wholeAt at at 0 1 (gapAt n s at)
+unfolding gapAt
+whole-start n s at = go (gap n (drop at s)) (at-front n (drop at s))
+  where
+    go : (r : Read ℕ) → AtFront r → gapPast at r ≡ wholeAt at at 0 1 (gapPast at r)
+    go (got v k) f = rw (le-ltb at at (omega arith), and-false) (ap (λ (w : ℕ). Gap w (at + k)) (omega arith))
+    go (stopped k) f = rw (f, add-zero)
+
+-- a byte of seven low bits counts `unit` times, and what is past it 128 times as much
+whole-byte : (at i v unit b : ℕ) (r : GapRead) → at ≤ i → wholeAt at i v unit (moreAt i b r) ≡ wholeAt at (i + 1) (v + unit * (b % 128)) (unit * 128) r
+whole-byte at i v unit b (NoGap p) h = refl
+whole-byte at i v unit b (Gap w p) h =
+    split (eqb w 0)
+    (λ e. rw (e, lt-ltb at (i + 1) (omega arith)))
+    (λ e.
+    let z : (w ≡ 0 → ⊥) = eqb-false w 0 e in
+    rw (e, ne-eqb (b % 128 + 128 * w) 0 (λ f. z (omega arith)))
+    (ap (λ (x : ℕ). Gap x p) (omega (arith, mul-add unit (b % 128) (128 * w), mul-assoc unit 128 w))))
+
+pub whole-more : (at i v unit n : ℕ) (s : List ℕ) → at ≤ i → 0 < n → i < length s → 128 ≤ getD s i 0
+    → wholeAt at i v unit (gapAt n s i) ≡ wholeAt at (i + 1) (v + unit * (getD s i 0 % 128)) (unit * 128) (gapAt (n - 1) s (i + 1))
+whole-more at i v unit n s h p l b =
+    rw (gap-more n s i (λ e. omega arith) l b) (whole-byte at i v unit (getD s i 0) (gapAt (n - 1) s (i + 1)) h)
 
 -- a number of n bytes is below 128 to the n
 abbrev Small : ℕ → Read ℕ → Type 0

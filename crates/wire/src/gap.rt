@@ -32,31 +32,32 @@ pub fn gap(s: &[u8], at: usize, most: u8) -> GapRead
     gap_in(s, at, most)
 }
 
-// The same by one call a byte.
+// The same, byte after byte: `v` is what the bytes before `i` are worth, `unit` what a one at `i` is worth.
 fn gap_in(s: &[u8], at: usize, most: u8) -> GapRead
     requires { ⌜ most ≤ 5 ⌝ }
     ensures { λ r. ⌜ r ≡ gapAt most (now (s .entry)) at ⌝ }
 {
-    if most == 0 {
-        return GapRead::NoGap(at);
-    }
-    if s.len() <= at {
-        return GapRead::NoGap(at);
-    }
-    let b = s[at] as u64;
-    if b < 128 {
-        return GapRead::Gap(b, at + 1);
-    }
-    match gap_in(s, at + 1, most - 1) {
-        GapRead::Gap(v, next) => {
-            if v == 0 {
-                GapRead::NoGap(at)
-            } else {
-                GapRead::Gap(b % 128 + 128 * v, next)
-            }
+    let mut v: u64 = 0;
+    let mut unit: u64 = 1;
+    let mut i = at;
+    let mut left = most;
+    while 0 < left {
+        if s.len() <= i {
+            return GapRead::NoGap(at);
         }
-        GapRead::NoGap(inner) => GapRead::NoGap(at),
+        let b = s[i] as u64;
+        if b < 128 {
+            if (b == 0) & (at < i) {
+                return GapRead::NoGap(at);
+            }
+            return GapRead::Gap(v + unit * b, i + 1);
+        }
+        v += unit * (b % 128);
+        unit *= 128;
+        i += 1;
+        left -= 1;
     }
+    GapRead::NoGap(at)
 }
 
 pub fn score(s: &[u8], at: usize) -> ScoreRead
