@@ -20,9 +20,10 @@ use Rattle.report.specs.Report.{reported}
 use Rattle.convert.specs.Convert.{converted}
 use Rattle.promises.specs.Demands.{Demand1, Demand2, Demand3}
 use Rattle.promises.proofs.Refusals.{exactly-first, none-exactly, query-refuses, check-refuses, show-refuses, block-refuses, shows-the-block, read-refuses, write-refuses, edit-refuses, convert-refuses, rank-refuses, search-refuses}
-use Rattle.promises.proofs.Stops.{untouched, stopped-book}
+use Rattle.promises.proofs.Stops.{untouched, stopped-book, ended-book, book-past}
+use Rattle.promises.proofs.Rows.{rank-leaves, search-leaves, rank-fills, search-fills}
 use Rattle.promises.proofs.Ranks.{ranking-best}
-use Rattle.promises.proofs.Ranking.{ranks-all, gets-the-ranking}
+use Rattle.promises.proofs.Ranking.{ranks-all, gets-the-ranking, lists-once}
 use Rattle.promises.proofs.RoundTrips.{read-and-written}
 use Rattle.promises.proofs.Book.{room-enough, booked, cut-by}
 use Rattle.promises.proofs.Edits.{any-edits, adds-up, one-edit, one-conversion, ranks-what-was-set, books-what-was-set}
@@ -57,7 +58,13 @@ demand-1 = record {
   edit-keeps = λ x s out n at e. kept (edited x s _) out n at e;
   convert-keeps = λ t s out n at e. kept (converted t s _) out n at e;
   search-keeps = untouched;
+  rank-rows = rank-leaves;
+  search-rows = search-leaves;
+  rank-fills = rank-fills;
+  search-fills = search-fills;
+  book-past = book-past;
   search-stops = stopped-book;
+  search-ends = ended-book;
 }
 
 docs-hits : (ts : List Term) (ds : List ℕ) → docs (map (hitAt ts) ds) ≡ ds
@@ -75,6 +82,7 @@ demand-2 = record {
   room = room-enough;
   matching = λ x ls d. ap (has d) (docs-hits (map (termOn ls) (x .terms)) (matches anyList (map (termOn ls) (x .terms)))) ∙ any-matches (map (termOn ls) (x .terms)) d;
   scoring = λ x ls. scored-hits (map (termOn ls) (x .terms)) (matches anyList (map (termOn ls) (x .terms)));
+  once = lists-once;
   best = ranking-best;
   reads-back = written-reads-back;
   writes-back = read-and-written;

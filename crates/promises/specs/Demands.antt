@@ -9,7 +9,7 @@ use lib.ListN.{length}
 use Rattle.model.specs.Outcome.{refused, done}
 use Rattle.model.specs.Post.{Post, docs, scores, postings}
 use Rattle.model.specs.Runs.{All, has, Bytes}
-use Rattle.shelf.specs.Walk.{Listing, stripOf}
+use Rattle.shelf.specs.Walk.{Listing, stripOf, walk}
 use Rattle.shelf.specs.Check.{checked, judged}
 use Rattle.lookup.specs.Find.{findOf, found, shownOf}
 use Rattle.lookup.specs.Show.{summaryShown, bodyShown, summaryOfBlock, partOfBlock}
@@ -21,17 +21,19 @@ use Rattle.change.specs.Bytes.{edited}
 use Rattle.convert.specs.Convert.{converted}
 use Rattle.edit.specs.History.{Try, shelfAfter, accepted, addUp, History}
 use Rattle.query.specs.Query.{Asked, Question, asked}
+use Rattle.query.specs.Range.{Once}
 use Rattle.rank.specs.Rank.{Hit, ranking}
 use Rattle.rank.specs.Match.{scoreOf, holds, some, hitAt}
 use Rattle.exhaustive.specs.Exhaustive.{rankAll}
 use Rattle.exhaustive.specs.Lists.{termOn}
-use Rattle.pruned.specs.Pruned.{searched}
+use Rattle.pruned.specs.Pruned.{Answer, searched}
 use Rattle.lines.specs.Text.{refusalLine}
 use Rattle.report.specs.Report.{reported}
 use Rattle.promises.specs.Refusals.{Fault, firstFault, IsFirst, queryFaults, checkFaults, showFaults, blockShown, blockFaults, readFaults, writeFaults, editFaults, convertFaults, rankFaults, searchFaults}
 use Rattle.promises.specs.Served.{listsFor, matchesFor, Asks, Room, bytesOf}
 use Rattle.promises.specs.Ranked.{In, KBest}
-use Rattle.promises.specs.Book.{Booked, CutBy, Stopping}
+use Rattle.promises.specs.Rows.{Lent, rowsIn, left, Filled, Past}
+use Rattle.promises.specs.Book.{Booked, CutBy, Stopping, Ending}
 use Rattle.promises.specs.Edits.{leftBy, matchesIn, AllNamed, Accepted, Changes, Converting, Converts, Shown}
 
 -- "1. Every entry point takes any shelf, query, posting or lent buffer, comes to an end,": each definition is total, and each contract has no premise.
@@ -62,9 +64,21 @@ pub record Demand1 : Type 0 where
   pub convert-keeps : (t : ℕ) (s out : List ℕ) (n at : ℕ) → converted t s (length out) ≡ refused n at → after (converted t s (length out)) out ≡ out
   pub search-keeps : (q s : List ℕ) (rows : ℕ) (fs cs ms : List ℕ) (n at : ℕ) → searched q s rows fs cs ms .outcome ≡ refused n at → (n ≡ 8 → ⊥)
       → searched q s rows fs cs ms ≡ record { outcome = refused n at; intervals = 0; opened = 0; blocks = 0; firsts = fs; ceilings = cs; marks = ms }
+  -- the same of the rows that are lent for hits, in either public form, 8 included: "and hit rows are untouched"
+  pub rank-rows : (q s : List ℕ) (r : Lent) (n at : ℕ) → rankAll q s (rowsIn r) ≡ refused n at → left (rankAll q s (rowsIn r)) r ≡ r
+  pub search-rows : (q s : List ℕ) (r : Lent) (fs cs ms : List ℕ) (n at : ℕ) → searched q s (rowsIn r) fs cs ms .outcome ≡ refused n at → left (searched q s (rowsIn r) fs cs ms .outcome) r ≡ r
+  -- (the paper) "rows past the last hit are not touched, nor is any other output past its end": the hits and then the rows as they were, and the book's runs past its rows
+  pub rank-fills : (q s : List ℕ) (r : Lent) (hs : List Hit) → rankAll q s (rowsIn r) ≡ done hs → Filled hs r (left (rankAll q s (rowsIn r)) r)
+  pub search-fills : (q s : List ℕ) (r : Lent) (fs cs ms : List ℕ) (hs : List Hit) → searched q s (rowsIn r) fs cs ms .outcome ≡ done hs
+      → Filled hs r (left (searched q s (rowsIn r) fs cs ms .outcome) r)
+  pub book-past : (q s : List ℕ) (rows : ℕ) (fs cs ms : List ℕ) (a : Answer) → searched q s rows fs cs ms ≡ a
+      → Past (a .intervals) fs (a .firsts) × Past (a .intervals) cs (a .ceilings) × Past (a .intervals) ms (a .marks)
   -- "except a bad block met during a search, where the interval book shows how far the search came."
   pub search-stops : (q s : List ℕ) (rows : ℕ) (fs cs ms : List ℕ) (at : ℕ) → searched q s rows fs cs ms .outcome ≡ refused 8 at
       → Stopping q s fs cs ms at (searched q s rows fs cs ms)
+  -- (the paper) "A bad body in a block never opened is not reported by the pruned search; its answer is then what the rule above gives."
+  pub search-ends : (q s : List ℕ) (rows : ℕ) (fs cs ms : List ℕ) (hs : List Hit) → searched q s rows fs cs ms .outcome ≡ done hs
+      → Ending q s fs cs ms hs (searched q s rows fs cs ms)
 
 pub record Demand2 : Type 0 where
   -- "2. On a sound shelf a query without fault, with room enough, gets exactly the exhaustive ranking of source document 003"
@@ -77,13 +91,15 @@ pub record Demand2 : Type 0 where
   -- "by summed weight times score:" the sheets that some list holds, each with its sum
   pub matching : (x : Question) (ls : List Listing) (d : ℕ) → has d (docs (matchesFor x ls)) ≡ some (holds (map (termOn ls) (x .terms)) d)
   pub scoring : (x : Question) (ls : List Listing) → All (λ (h : Hit). h .score ≡ scoreOf (map (termOn ls) (x .terms)) (h .doc)) (matchesFor x ls)
+  -- no sheet stands there twice
+  pub once : (q s : List ℕ) (x : Question) (ls : List Listing) → Asks q s x ls → Once (docs (ranking (x .k) (matchesFor x ls)))
   -- "higher first, lower sheet number first on a tie, the best k or all there are."
   pub best : (k : ℕ) (hs : List Hit) → KBest k hs (ranking k hs)
   -- "Postings written and read back are the same postings;" in either layout
   pub reads-back : (strip : Bool) (t : ℕ) (ds ss : List ℕ) (room : ℕ) (v : List ℕ) (d w : ℕ) → t < 2 ^ 32 → writeList strip t ds ss room ≡ done v → length ds ≤ d → length ds ≤ w
       → readList t v d w ≡ done (postings ds ss)
-  -- "a sound list with every block but the last full, read and written, is the same bytes.": the writer is told the list's layout
-  pub writes-back : (s : List ℕ) (ls : List Listing) → Bytes s → checked s ≡ done ls → (t : ℕ) (l : Listing) → findOf t ls ≡ done l → Full (l .blocks)
+  -- "a sound list with every block but the last full, read and written, is the same bytes.": a list that is read, whatever other lists hold; the writer is told its layout
+  pub writes-back : (s : List ℕ) (ls : List Listing) → Bytes s → walk s ≡ done ls → (t : ℕ) (l : Listing) → findOf t ls ≡ done l → Full (l .blocks)
       → (d w : ℕ) (ps : List Post) → readList t s d w ≡ done ps → (room : ℕ) → length (bytesOf s l) ≤ room → writeList (stripOf (l .blocks)) t (docs ps) (scores ps) room ≡ done (bytesOf s l)
 
 pub record Demand3 : Type 0 where

@@ -1,5 +1,5 @@
 -- What edits add up to, posting by posting, and how a query's lists stand in it. Assumes nothing.
-use Prim.Native.Nat.{ℕ, _*_, _≤_, _<_}
+use Prim.Native.Nat.{ℕ, _*_, _≤_}
 use mathlib.Core.Path.{_≡_}
 use mathlib.Core.Bool.{false, cond}
 use mathlib.Core.List.{List, [], _∷_, map}
@@ -18,7 +18,7 @@ use Rattle.edit.specs.History.{Act, Change, Convert, Named, Try}
 use Rattle.query.specs.Query.{Asked, Question}
 use Rattle.rank.specs.Rank.{Hit}
 use Rattle.rank.specs.Match.{Term, anyList, hitsOf}
-use Rattle.promises.specs.Ranked.{In, countAhead}
+use Rattle.promises.specs.Ranked.{In, FewBefore}
 
 -- the score of docid d under term t once some edits are made, where it was `w` before; 0 is no posting. The last edit that touches it says.
 -- A conversion touches none.
@@ -82,4 +82,4 @@ pub record Converts (t : ℕ) (s : List ℕ) (old : List Listing) (v : List ℕ)
 pub record Shown (w : ℕ) (y : Asked) (k : ℕ) (matches : List Hit) (h : Hit) (o : Outcome (List Hit)) : Type 0 where
   pub scores : y .weight * w ≤ h .score
   pub matched : In h matches
-  pub shown : countAhead h matches < k → (hs : List Hit) × (o ≡ done hs) × In h hs
+  pub shown : FewBefore h k matches → (hs : List Hit) × (o ≡ done hs) × In h hs

@@ -5,7 +5,6 @@ use mathlib.Core.Bool.{Bool, true, false, cond}
 use mathlib.Core.List.{List, [], _∷_, _++_}
 use lib.Dec.{ltb, eqb}
 use lib.ListN.{length, replicate}
-use Rattle.model.specs.Limits.{maxShelf}
 use Rattle.model.specs.Outcome.{Outcome, refused, done}
 use Rattle.model.specs.Post.{post}
 use Rattle.shelf.specs.Walk.{Block, Listing}
@@ -68,7 +67,7 @@ search q s = searched q s 100 lent lent lent
 
 -- a set that is tried, with room for any shelf
 abbrev set : (t d w : ℕ) → Try
-set t d w = record { act = Change (Set t d w); room = maxShelf }
+set t d w = record { act = Change (Set t d w); room = 1048576 }
 
 -- the greatest scores that the blocks of a sound shelf store
 abbrev topsIn : List Block → List ℕ

@@ -7,7 +7,6 @@ use mathlib.Core.Option.{Option, none, some}
 use mathlib.Core.List.{List, [], _∷_, _++_}
 use lib.Dec.{leb, ltb, eqb}
 use lib.ListN.{length, drop}
-use Rattle.model.specs.Limits.{maxDocid, maxK, maxTerms, maxPostings}
 use Rattle.model.specs.Outcome.{Outcome, refused, done, andThen}
 use Rattle.model.specs.Post.{postings}
 use Rattle.model.specs.Runs.{All}
@@ -80,10 +79,10 @@ fieldsFaults q r =
     -- 1: "query fields wrong or cut short: first such field, or query length"
     judged (allRight r)
     -- 2: "k not 1 to 100: 0"
-    ∷ row (not (ltb 0 (kIn q) && leb (kIn q) maxK)) 2 0
+    ∷ row (not (ltb 0 (kIn q) && leb (kIn q) 100)) 2 0
     -- 3: "no term, or more than 8: query length, or the ninth"
     ∷ row (not (ltb 0 (length (termsRead q r)))) 3 (length q)
-    ∷ row (not (leb (length (termsRead q r)) maxTerms)) 3 (termAt maxTerms)
+    ∷ row (not (leb (length (termsRead q r)) 8)) 3 (termAt 8)
     -- 4: "weight 0: first such field"
     ∷ weighted 0 (termsRead q r)
     -- 5: "term twice: the second of the first pair to close"
@@ -137,7 +136,7 @@ readFaults t s d w =
 -- ---- "Writing 11 (the longer run), 10 (unequal runs first), 9."
 abbrev pub writeFaults : (strip : Bool) (t : ℕ) (ds ss : List ℕ) (room : ℕ) → List Fault
 writeFaults strip t ds ss room =
-    row (ltb maxPostings (max (length ds) (length ss))) 11 0
+    row (ltb 6400 (max (length ds) (length ss))) 11 0
     ∷ row (not (eqb (length ds) (length ss))) 10 (min (length ds) (length ss))
     ∷ row (eqb (length ds) 0) 10 0
     ∷ row (ltb (faultAt 0 (postings ds ss)) (length ds)) 10 (faultAt 0 (postings ds ss))
@@ -181,6 +180,6 @@ abbrev pub searchFaults : (q s : List ℕ) (rows a b c : ℕ) → List Fault
 searchFaults q s rows a b c =
     queryFaults q
     ++ (walkFault s
-    ∷ row (not (leb (kIn q) rows && roomFor (length (starts maxDocid (listsAsked q s))) a b c)) 9 0
-    ∷ judged (pruned anyList never maxDocid (kIn q) (listsAsked q s))
+    ∷ row (not (leb (kIn q) rows && roomFor (length (starts 16777215 (listsAsked q s))) a b c)) 9 0
+    ∷ judged (pruned anyList never 16777215 (kIn q) (listsAsked q s))
     ∷ [])

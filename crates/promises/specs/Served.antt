@@ -3,7 +3,6 @@ use Prim.Native.Nat.{ℕ, _-_, _≤_}
 use mathlib.Core.Path.{_≡_}
 use mathlib.Core.List.{List, map}
 use lib.ListN.{length, take, drop}
-use Rattle.model.specs.Limits.{maxDocid}
 use Rattle.model.specs.Outcome.{done}
 use Rattle.model.specs.Runs.{Bytes}
 use Rattle.shelf.specs.Walk as shelf
@@ -20,7 +19,7 @@ listsFor x ls = listingsOf (x .terms) ls
 
 -- how many intervals they cut the sheet numbers into
 abbrev pub intervalCount : Question → List shelf.Listing → ℕ
-intervalCount x ls = length (starts maxDocid (listsFor x ls))
+intervalCount x ls = length (starts 16777215 (listsFor x ls))
 
 -- "A document matches when some query list holds it. Its score is the sum of weight times stored score.": all matches on the shelf
 abbrev pub matchesFor : Question → List shelf.Listing → List Hit
