@@ -1,8 +1,9 @@
--- The demands hold (Demands), and the marked examples are as the paper says (Marked). What they stand on: for demand 1 the order of refusals (Refusals), their
--- numbers (Numbers) and what a refusal leaves (Rows, Stops); for demand 2 good lists (Goods), the ranking (Ranks, Ranking), reading and writing (RoundTrips); for demand 3
--- the book (Book), edits (Edits) of which one writing is bytes (Written), and the incident (Raised).
+-- The demands hold (Demands), and the limits and the marked examples are as the paper says (Limits, Marked). What they stand on: for demand 1 the order of
+-- refusals (Refusals), their numbers (Numbers) and what a refusal leaves (Rows, Stops); for demand 2 good lists (Goods), the ranking (Ranks, Ranking), reading and
+-- writing (RoundTrips); for demand 3 the book (Book), edits (Edits) of which one writing is bytes (Written), and the incident (Raised).
 pub mod Demands
 pub mod Marked
+pub mod Limits
 pub mod Refusals
 pub mod Numbers
 pub mod Rows
