@@ -17,17 +17,17 @@ use Rattle.block.proofs.Bodies.{body-round}
 use Rattle.shelf.specs.Walk.{Listing, stripOf, list, lists}
 use Rattle.shelf.specs.Check.{badBody, badLists, checked}
 use Rattle.shelf.specs.declared.check.BadRead.the-variants.{NoBad}
-use Rattle.shelf.proofs.Walks.{list-walked}
 use Rattle.shelf.proofs.Sounds.{or-none}
 use Rattle.list.specs.Write.{packed, bodiesBytes, blocksBytes, listBytes, Word, writing, Words}
-use Rattle.list.proofs.Writes.{Fines, blocksFor, blocks-size, written, list-round, writable-fine, written-strip, writtenFrom, list-bytes, written-sound}
-use Rattle.list.proofs.Canonical.{chunks, chunks-length}
+use Rattle.list.proofs.Writes.{Fines, blocksFor, blocks-size, written, writable-fine, written-strip, writtenFrom, list-bytes, written-sound}
+use Rattle.list.proofs.Canonical.{chunks}
 use Rattle.change.specs.Bytes.{Piece, pieceOf, pieces, joined, contents}
 use Rattle.change.proofs.Pieces.{lists-inv, pieces-joined, checked-sound, sound-lists, standing-sound, pieces-hold}
 use Rattle.convert.specs.Convert.{chunksOf, turned, turnedPieces, listed, turning, converted, turnWords, Turned}
 use Rattle.convert.proofs.Layouts.{chunks-are, list-reads, own-bytes}
 use Rattle.convert.proofs.Lists.{turned-rises, turned-count, turned-length, turned-holds}
 use Rattle.convert.proofs.Seatings.{first-past, converted-sound}
+use Rattle.convert.proofs.Alike.{read-there, cons-same}
 
 module _ (t : ℕ) where
   -- ---- an accepted conversion
@@ -104,31 +104,18 @@ not-not : (x : Bool) → not (not x) ≡ x
 not-not true = refl
 not-not false = refl
 
-done-same : (l m : Listing) → done l ≡ done m → l ≡ m
-done-same l m e = cc
-
-cons-same : (x y : Piece) (xs ys : List Piece) → x ∷ xs ≡ y ∷ ys → (x ≡ y) × (xs ≡ ys)
-cons-same x y xs ys e = ((cc), (cc))
-
 -- a list that reads where a turned list stands is that list, so that turned it has the bytes of the first
 turned-back : (floor at floor′ at′ : ℕ) (s v r : List ℕ) (l m : Listing) → Bytes s → list floor at (drop at s) ≡ done l → badBody (l .blocks) ≡ NoBad → list floor′ at′ (drop at′ v) ≡ done m →
     pieceOf v m .bytes ++ r ≡ drop at′ v → pieceOf v m ≡ turned l → turned m .bytes ≡ pieceOf s l .bytes
 turned-back floor at floor′ at′ s v r l m h e b f d q =
-    let k = list-reads floor at s l h e b in
     let strip = stripOf (l .blocks) in
     let t = l .place .term in
     let cs = chunks (l .blocks) in
-    let n = chunks-length (l .blocks) in
     let term : m .place .term ≡ t = ap (λ (x : Piece). x .term) q in
     let lay : stripOf (m .blocks) ≡ not strip = ap (λ (x : Piece). x .strip) q in
-    let bytes : drop at′ v ≡ blocksBytes (not strip) t cs ++ r =
-    sym d ∙ ap (λ (x : Piece). x .bytes ++ r) q ∙ ap (λ (ds : List (List Post)). blocksBytes (not strip) t ds ++ r) (chunks-are (l .blocks)) in
-    let low : floor′ ≤ t = omega (arith, list-walked floor′ at′ v m f .rise) in
-    let same : m ≡ written (not strip) t at′ cs =
-    done-same m (written (not strip) t at′ cs)
-    (sym f ∙ ap (list floor′ at′) bytes ∙ list-round (not strip) floor′ t at′ cs r (k .small) low (omega (arith, k .some)) (omega (arith, k .few)) (k .fine)) in
+    let same : m ≡ written (not strip) t at′ cs = read-there floor at s l h e b floor′ at′ v r m f d term (not strip) (ap (λ (x : Piece). x .bytes) q) in
     let blocks : chunksOf (m .blocks) ≡ chunksOf (l .blocks) =
-    ap (λ (x : Listing). chunksOf (x .blocks)) same ∙ chunks-round (not strip) 0 (at′ + 8) (at′ + 8 + 12 * length cs) cs (k .fine) ∙ sym (chunks-are (l .blocks)) in
+    ap (λ (x : Listing). chunksOf (x .blocks)) same ∙ chunks-round (not strip) 0 (at′ + 8) (at′ + 8 + 12 * length cs) cs (list-reads floor at s l h e b .fine) ∙ sym (chunks-are (l .blocks)) in
     let layout : not (stripOf (m .blocks)) ≡ strip = ap not lay ∙ not-not strip in
     ap₂ (λ (x : Bool) (u : ℕ). blocksBytes x u (chunksOf (m .blocks))) layout term
     ∙ ap (λ (ds : List (List Post)). blocksBytes strip t ds) blocks ∙ sym (own-bytes floor at s l h e b)

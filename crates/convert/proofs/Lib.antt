@@ -3,4 +3,5 @@ pub mod Layouts
 pub mod Turnings
 pub mod Lists
 pub mod Seatings
+pub mod Alike
 pub mod Leaves
