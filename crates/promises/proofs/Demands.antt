@@ -27,6 +27,7 @@ use Rattle.promises.proofs.Ranking.{ranks-all, gets-the-ranking, lists-
 use Rattle.promises.proofs.RoundTrips.{read-and-written}
 use Rattle.promises.proofs.Book.{room-enough, booked, cut-by}
 use Rattle.promises.proofs.Edits.{any-edits, adds-up, one-edit, one-conversion, ranks-what-was-set, books-what-was-set}
+use Rattle.promises.proofs.Alike.{answers-alike}
 use Rattle.promises.proofs.Raised.{raised-is-shown}
 
 -- what a refusal leaves of a lent run
@@ -97,5 +98,6 @@ demand-3 = record {
   books-any = λ q s x ls a rows fs cs ms r. (booked q s x ls a rows fs cs ms r, cut-by q s x ls a rows fs cs ms r);
   changes = one-edit;
   converts = one-conversion;
+  alike = answers-alike;
   shows = raised-is-shown;
 }

@@ -121,6 +121,9 @@ pub record Demand3 : Type 0 where
   pub changes : (e : Edit) (s : List ℕ) (old : List Listing) (v : List ℕ) → Accepted e s old v → Changes e s old v
   -- a conversion leaves a sound shelf that holds the same, with the list in the other layout and every other list byte for byte
   pub converts : (t : ℕ) (s : List ℕ) (old : List Listing) (v : List ℕ) → Converting t s old v → Converts t s old v
+  -- (request 1) "a search answers alike": whatever is asked and whatever is lent, the hits or the refusal, the counts and the book are the old shelf's
+  pub alike : (t : ℕ) (s : List ℕ) (old : List Listing) (v : List ℕ) → Converting t s old v → (q : List ℕ) (rows : ℕ) (fs cs ms : List ℕ)
+      → (searched q v rows fs cs ms ≡ searched q s rows fs cs ms) × (rankAll q v rows ≡ rankAll q s rows)
   -- the incident: "A regulator erratum was raised to the top score while its block kept the old greatest score. The block stayed shut."
   pub shows : (t d w : ℕ) (s : List ℕ) (old : List Listing) (v : List ℕ) → Accepted (Set t d w) s old v → (q : List ℕ) (x : Question) (ls : List Listing) → Asks q v x ls
       → (y : Asked) → In y (x .terms) → y .term ≡ t → (rows : ℕ) (fs cs ms : List ℕ) → Room x ls rows fs cs ms
