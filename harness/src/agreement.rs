@@ -87,7 +87,7 @@ fn the_measures_edits_agree_with_the_reference() {
         let mut shelf = generate::shelf(rng, size, spread);
         for _ in 0..4 {
             let docid = rng.within(0, 40) as u32;
-            let (term, score, room) = (rng.within(0, 4) as u32, rng.within(0, 9) as u16, shelf.len() + rng.within(0, 30) as usize);
+            let (term, score, room) = (rng.within(0, 4) as u32, rng.within(0, 9) as u16, shelf.len() + rng.within(0, 30));
             let mut out = vec![0; room];
             let set = tuned::edit::set(&shelf, term, docid, score, &mut out).map(|n| out[..n].to_vec());
             assert_eq!(set, edit(Edit::Set(term, docid, score), &shelf, room).map_err(pair), "seed {seed}");

@@ -8,6 +8,7 @@ use crate::generate::field_starts;
 use crate::reference::edit::Edit;
 use crate::reference::fields::put_field;
 use crate::reference::list::{pack, put_blocks, put_summary};
+use crate::reference::m1::{m1_query, m1_shelf, m5_shelf};
 use crate::reference::query::put_query;
 use crate::reference::shelf::Summary;
 use crate::reference::{Layout, Posting, MAX_DOCID, MAX_SHELF};
@@ -58,11 +59,6 @@ fn is<T: PartialEq + std::fmt::Debug>(t: &mut Tally, archive: T, paper: T) {
     t.note("the paper's answer", (archive != paper).then(|| format!("archive {archive:?}, paper {paper:?}")));
 }
 
-/// The paper's shelf of 73 bytes.
-pub fn m1_shelf() -> Vec<u8> {
-    [put_blocks(7, &[&[(2, 5), (4, 3)], &[(9, 1)]]), put_blocks(9, &[&[(4, 4), (6, 2)]])].concat()
-}
-
 /// A list of one posting, docid 1 and score 1.
 fn least_list(term: u32) -> Vec<u8> {
     pack(term, &[(1, 1)])
@@ -90,10 +86,13 @@ fn each_byte_changed(t: &mut Tally) {
     }
 }
 
-/// "its tag, also when cut short; shelf length where a field is due and no byte is left"
 fn cut_at_every_byte(t: &mut Tally) {
-    let shelf = m1_shelf();
-    let starts = field_starts(&shelf);
+    cut_m1(t, &m1_shelf());
+}
+
+/// M1, in either layout: "its tag, also when cut short; shelf length where a field is due and no byte is left"
+fn cut_m1(t: &mut Tally, shelf: &[u8]) {
+    let starts = field_starts(shelf);
     for end in 1..shelf.len() {
         let found = check(t, &shelf[..end]);
         let second_list = 45;
@@ -361,12 +360,11 @@ fn long_lists_read(t: &mut Tally) {
 fn marked_ranked(t: &mut Tally) {
     let shelf = m1_shelf();
     for (k, hits) in [(1, 1), (2, 2), (3, 3), (5, 4)] {
-        let found = rank_all(t, &put_query(k, &[(7, 1), (9, 2)]), &shelf, 5, 5);
+        let found = rank_all(t, &m1_query(k), &shelf, 5, 5);
         is(t, found, (0, hits));
     }
-    let mut wrong_score = m1_shelf();
-    wrong_score[30] = 3;
-    let found = rank_all(t, &put_query(1, &[(7, 1), (9, 2)]), &wrong_score, 1, 1);
+    let wrong_score = m5_shelf();
+    let found = rank_all(t, &m1_query(1), &wrong_score, 1, 1);
     is(t, found, (8, 40));
     let found = rank_all(t, &put_query(1, &[(9, 2)]), &wrong_score, 1, 1);
     is(t, found, (0, 1));
@@ -525,8 +523,7 @@ fn fullest_shelf(t: &mut Tally) {
 fn refused_edits(t: &mut Tally) {
     let shelf = m1_shelf();
     let cut = &shelf[..50];
-    let mut wrong = shelf.clone();
-    wrong[30] = 3; // M5: the second summary's greatest score
+    let wrong = m5_shelf();
     for asked in [Edit::Set(7, 0, 1), Edit::Set(7, MAX_DOCID + 1, 1), Edit::Set(7, 1, 0), Edit::Clear(7, 0), Edit::Withdraw(MAX_DOCID + 1)] {
         let (answer, _) = edit(t, asked, cut, 0);
         is(t, answer, (10, 0));

@@ -1,37 +1,15 @@
 //! The inputs of the folder `examples`, made from the paper's sentences: a query, and behind it a shelf.
 
 use crate::reference::fields::put_field;
-use crate::reference::list::{pack, put_blocks, put_blocks_as};
+use crate::reference::list::{pack, put_blocks};
+use crate::reference::m1::{m1_query, m1_shelf, m1_shelf_with, m1_strips, m5_shelf};
 use crate::reference::query::put_query;
-use crate::reference::Layout;
 
 pub struct Example {
     pub name: &'static str,
     /// What the input is, for the folder's README.
     pub what: &'static str,
     pub input: Vec<u8>,
-}
-
-/// "Query `20 0001 01`, `21 0005 00000007 01`, `21 0005 00000009 02`", with another k.
-fn m1_query(k: u8) -> Vec<u8> {
-    put_query(k, &[(7, 1), (9, 2)])
-}
-
-/// "Shelf, 73 bytes"
-fn m1_shelf() -> Vec<u8> {
-    m1_shelf_as(Layout::Pairs)
-}
-
-/// M1's shelf, its first list in a layout.
-fn m1_shelf_as(layout: Layout) -> Vec<u8> {
-    [put_blocks_as(layout, 7, &[&[(2, 5), (4, 3)], &[(9, 1)]]), put_blocks(9, &[&[(4, 4), (6, 2)]])].concat()
-}
-
-/// M1's shelf with one of its bytes another.
-fn m1_shelf_with(at: usize, byte: u8) -> Vec<u8> {
-    let mut shelf = m1_shelf();
-    shelf[at] = byte;
-    shelf
 }
 
 fn example(name: &'static str, what: &'static str, query: Vec<u8>, shelf: Vec<u8>) -> Example {
@@ -45,8 +23,8 @@ fn marked() -> Vec<Example> {
         example("m2", "the same with k=2", m1_query(2), m1_shelf()),
         example("m3", "the same with k=3", m1_query(3), m1_shelf()),
         example("m4", "the same with k=5: four hits", m1_query(5), m1_shelf()),
-        example("m5", "the second summary's score made 3, k=1: the wrong body is not met", m1_query(1), m1_shelf_with(30, 3)),
-        example("m6", "the same with k=4: it is met, 8 at 40", m1_query(4), m1_shelf_with(30, 3)),
+        example("m5", "the second summary's score made 3, k=1: the wrong body is not met", m1_query(1), m5_shelf()),
+        example("m6", "the same with k=4: it is met, 8 at 40", m1_query(4), m5_shelf()),
         example(
             "m7",
             "blocks {3:6} and {8:6}, weight 1, k=1: the second has an equal ceiling",
@@ -54,7 +32,7 @@ fn marked() -> Vec<Example> {
             put_blocks(7, &[&[(3, 6)], &[(8, 6)]]),
         ),
         example("m8", "M1's query on the empty shelf", m1_query(1), Vec::new()),
-        example("strip", "M1 with its first list in strips: it prints what M1 prints", m1_query(1), m1_shelf_as(Layout::Strip)),
+        example("strip", "M1 with its first list in strips: it prints what M1 prints", m1_query(1), m1_strips()),
     ]
 }
 

@@ -1,8 +1,7 @@
 //! Writes a list, rescores a sheet, turns the list to strips, searches, and shows a refusal. In `bindings/rust`: `cargo run --example embed`.
-use std::error::Error;
-use tagmurlen::{check, convert, search, set, write_list, Book, Layout, MAX_INTERVALS};
+use tagmurlen::{check, convert, search, set, write_list, Book, Layout, Query, Refusal, MAX_INTERVALS};
 
-fn main() -> Result<(), Box<dyn Error>> {
+fn main() -> Result<(), Refusal> {
     let sheets: Vec<u32> = (1..=200).collect(); // in two blocks, 1 to 100 and 101 to 200
     let (mut first, mut second, mut shelf) = ([0; 1024], [0; 1024], [0; 1024]);
     let written = write_list(Layout::Pairs, 7, &sheets, &[5; 200], &mut first)?;
@@ -14,11 +13,11 @@ fn main() -> Result<(), Box<dyn Error>> {
     let length = convert(&second[..rescored], 7, &mut shelf)?; // in each block all scores stand together now
     println!("in strips: {length} bytes");
 
-    let query = [0x20, 0, 1, 2, 0x21, 0, 5, 0, 0, 0, 7, 10]; // the best 2 for term 7, weight 10
+    let query = Query::new(2).term(7, 10).build()?; // the best 2 for term 7, weight 10
     let (mut docids, mut scores) = ([0; 2], [0; 2]);
     let (mut firsts, mut ceilings, mut marks) = ([0; MAX_INTERVALS], [0; MAX_INTERVALS], [0; MAX_INTERVALS]);
-    let book = Book { firsts: &mut firsts, ceilings: &mut ceilings, marks: &mut marks };
-    let found = search(&query, &shelf[..length], &mut docids, &mut scores, book)?;
+    let mut book = Book::new(&mut firsts, &mut ceilings, &mut marks);
+    let found = search(&query, &shelf[..length], &mut docids, &mut scores, &mut book)?;
     for i in 0..found.hits {
         println!("sheet {} scores {}", docids[i], scores[i]);
     }

@@ -2,15 +2,35 @@
 
 use std::{error::Error, fmt};
 
-/// Why an input was refused, and where.
+/// Why an input was refused, and where: the error of every function here, so that one `?` serves them all.
+///
+/// ```
+/// use tagmurlen::{check, check_query, Refusal};
+///
+/// fn both(query: &[u8], shelf: &[u8]) -> Result<usize, Refusal> {
+///     check(shelf)?;
+///     check_query(query)
+/// }
+///
+/// assert_eq!(both(&[], &[9]), Err(Refusal { number: 6, offset: 0 }));
+/// assert_eq!(both(&[], &[]), Err(Refusal { number: 1, offset: 0 }));
+/// ```
 #[derive(Clone, Copy, Debug, PartialEq, Eq)]
 pub struct Refusal {
+    /// The number in the paper's table, 1 to 12.
     pub number: u32,
+    /// Where: a byte of the query for 1 to 5, of the shelf for 6 to 8; the index of a posting for 10; otherwise 0.
     pub offset: u64,
 }
 
 impl Refusal {
     /// The table's sentence for the number.
+    ///
+    /// ```
+    /// let refusal = tagmurlen::check_query(&[]).unwrap_err();
+    /// assert_eq!(refusal.sentence(), "query fields wrong or cut short");
+    /// assert_eq!(refusal.to_string(), "query fields wrong or cut short (number 1, at 0)");
+    /// ```
     pub fn sentence(&self) -> &'static str {
         match self.number {
             1 => "query fields wrong or cut short",

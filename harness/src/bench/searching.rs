@@ -75,8 +75,8 @@ fn measure(query: &[u8], shelf: &[u8]) -> Times {
     let (mut hit_docids, mut hit_scores) = ([0; 100], [0; 100]);
     let (mut firsts, mut ceilings, mut marks) = ([0; 1_025], [0; 1_025], [0; 1_025]);
     let mut pruned = || {
-        let book = Book { firsts: &mut firsts, ceilings: &mut ceilings, marks: &mut marks };
-        tagmurlen::search(black_box(query), black_box(shelf), &mut hit_docids, &mut hit_scores, book).expect("the shelf is sound")
+        let mut book = Book::new(&mut firsts, &mut ceilings, &mut marks);
+        tagmurlen::search(black_box(query), black_box(shelf), &mut hit_docids, &mut hit_scores, &mut book).expect("the shelf is sound")
     };
     let searched = pruned();
     let skipped = tuned::skipping::search(query, shelf, 100).expect("the shelf is sound");

@@ -21,8 +21,8 @@ fn all_turned(shelf: &[u8]) -> Vec<u8> {
 fn pruned(query: &[u8], shelf: &[u8]) {
     let (mut docids, mut scores) = ([0; 100], [0; 100]);
     let (mut firsts, mut ceilings, mut marks) = ([0; 1_025], [0; 1_025], [0; 1_025]);
-    let book = Book { firsts: &mut firsts, ceilings: &mut ceilings, marks: &mut marks };
-    assert!(black_box(tagmurlen::search(black_box(query), black_box(shelf), &mut docids, &mut scores, book)).is_ok());
+    let mut book = Book::new(&mut firsts, &mut ceilings, &mut marks);
+    assert!(black_box(tagmurlen::search(black_box(query), black_box(shelf), &mut docids, &mut scores, &mut book)).is_ok());
 }
 
 fn ranked(query: &[u8], shelf: &[u8]) {

@@ -1,13 +1,14 @@
 //! Corners of the pruned search, each with the paper's answer.
 
-use super::{is, m1_shelf, run_of, Corner};
+use super::{is, run_of, Corner};
 use crate::compare::search::{search, Rooms, Told};
 use crate::compare::Tally;
 use crate::reference::list::{pack, put_blocks};
+use crate::reference::m1::{m1_query, m1_shelf, m5_shelf};
 use crate::reference::query::put_query;
 use crate::reference::rank::Hit;
 use crate::reference::{Posting, MAX_DOCID};
-use tagmurlen::{Book, Refusal, Searched, Stopped};
+use tagmurlen::{Book, Refusal, Searched};
 
 pub const CORNERS: [Corner; 13] = [
     ("M1 to M4 searched: hits, book and counts", more_hits),
@@ -29,17 +30,6 @@ const SKIPPED: u8 = 0;
 const OPENED: u8 = 1;
 const STOPPED: u8 = 2;
 const NOT_REACHED: u8 = 3;
-
-fn m1_query(k: u8) -> Vec<u8> {
-    put_query(k, &[(7, 1), (9, 2)])
-}
-
-/// M5's shelf: "second summary's score made 3".
-fn m5_shelf() -> Vec<u8> {
-    let mut shelf = m1_shelf();
-    shelf[30] = 3;
-    shelf
-}
 
 /// The hits, the marks, and the counts: intervals, blocks opened, blocks in all.
 fn finds(t: &mut Tally, told: &Told, hits: &[Hit], marks: &[u8], counts: [u64; 3]) {
@@ -257,15 +247,16 @@ fn safe_function(t: &mut Tally) {
     let (mut docids, mut scores) = ([0; 4], [0; 4]);
     let (mut firsts, mut ceilings, mut marks) = ([0; 7], [0; 7], [9; 7]);
     let mut search = |k: u8, shelf: &[u8], rows: usize| {
-        let book = Book { firsts: &mut firsts, ceilings: &mut ceilings, marks: &mut marks };
-        tagmurlen::search(&m1_query(k), shelf, &mut docids[..rows], &mut scores[..rows], book)
+        let mut book = Book::new(&mut firsts, &mut ceilings, &mut marks);
+        let found = tagmurlen::search(&m1_query(k), shelf, &mut docids[..rows], &mut scores[..rows], &mut book);
+        (found, book.intervals())
     };
     let found = search(1, &m1_shelf(), 1);
-    is(t, found, Ok(Searched { hits: 1, intervals: 7, opened: 2, blocks: 3 }));
+    is(t, found, (Ok(Searched { hits: 1, opened: 2, blocks: 3 }), 7));
     let short = search(4, &m1_shelf(), 3);
-    is(t, short, Err(Stopped { refusal: Refusal { number: 9, offset: 0 }, intervals: 0 }));
+    is(t, short, (Err(Refusal { number: 9, offset: 0 }), 0));
     let stopped = search(4, &m5_shelf(), 4);
-    is(t, stopped, Err(Stopped { refusal: Refusal { number: 8, offset: 40 }, intervals: 7 }));
+    is(t, stopped, (Err(Refusal { number: 8, offset: 40 }), 7));
     is(t, marks, [0, 1, 1, 1, 0, 2, 3]);
     is(t, (docids, scores), ([4, 0, 0, 0], [11, 0, 0, 0]));
 }

@@ -1,11 +1,11 @@
 //! Corners of the strips, bodies tagged 04, and of the converter, each with the paper's answer.
 
-use super::{after, holds, is, least_list, m1_shelf, one_block_as, run_of, Corner, ONE, THREE};
+use super::{after, cut_m1, holds, is, least_list, one_block_as, run_of, Corner, ONE, THREE};
 use crate::compare::search::{search, Rooms};
 use crate::compare::{check, convert, edit, rank_all, read_list, write_list, Answer, Tally};
-use crate::generate::field_starts;
 use crate::reference::edit::Edit;
 use crate::reference::list::{pack, pack_as, put_blocks, put_blocks_as};
+use crate::reference::m1::{m1_query, m1_shelf, m1_strips};
 use crate::reference::query::put_query;
 use crate::reference::shelf::Summary;
 use crate::reference::{Layout, Posting};
@@ -26,15 +26,6 @@ pub const CORNERS: [Corner; 13] = [
     ("the safe functions for Rust: a strip written, converted, refused", safe_functions),
 ];
 
-/// The paper's shelf with its first list in strips.
-fn m1_strips() -> Vec<u8> {
-    [put_blocks_as(Layout::Strip, 7, &[&[(2, 5), (4, 3)], &[(9, 1)]]), put_blocks(9, &[&[(4, 4), (6, 2)]])].concat()
-}
-
-fn m1_query(k: u8) -> Vec<u8> {
-    put_query(k, &[(7, 1), (9, 2)])
-}
-
 fn each_byte_changed(t: &mut Tally) {
     let shelf = m1_strips();
     is(t, &shelf[32..45], &[4, 0, 5, 1, 0, 5, 0, 3, 4, 0, 2, 0, 1]);
@@ -51,14 +42,7 @@ fn each_byte_changed(t: &mut Tally) {
 }
 
 fn cut_at_every_byte(t: &mut Tally) {
-    let shelf = m1_strips();
-    let starts = field_starts(&shelf);
-    for end in 1..shelf.len() {
-        let found = check(t, &shelf[..end]);
-        let second_list = 45;
-        let due = starts.iter().rev().find(|&&s| s <= end).map_or(0, |&s| s as u64);
-        is(t, found, if end == second_list { (0, 0) } else { (6, due) });
-    }
+    cut_m1(t, &m1_strips());
     for end in 0..STRIP.len() {
         let found = check(t, &one_block_as(Layout::Strip, THREE, &STRIP[..end]));
         is(t, found, (8, 20));

@@ -3,6 +3,7 @@
 use super::convert::convert;
 use super::edit::{edit, Edit};
 use super::list::{pack, put_blocks, put_blocks_as, read_list, write_list};
+use super::m1::{m1_query, m1_shelf, m5_shelf};
 use super::program::print;
 use super::prune::{search, Found, Room, Stopped, NOT_REACHED, OPENED, SKIPPED, STOPPED};
 use super::query::{put_query, read_query};
@@ -11,18 +12,6 @@ use super::shelf::check;
 use super::{Layout, Refusal};
 
 const WIDE: Room = Room { rows: 100, book: 1025 };
-
-/// "Shelf, 73 bytes"
-fn m1_shelf() -> Vec<u8> {
-    let mut shelf = put_blocks(7, &[&[(2, 5), (4, 3)], &[(9, 1)]]);
-    shelf.extend(put_blocks(9, &[&[(4, 4), (6, 2)]]));
-    assert_eq!(shelf.len(), 73);
-    shelf
-}
-
-fn m1_query(k: u8) -> Vec<u8> {
-    put_query(k, &[(7, 1), (9, 2)])
-}
 
 fn found(k: u8, shelf: &[u8]) -> Found {
     search(&m1_query(k), shelf, WIDE).expect("accepted")
@@ -66,8 +55,7 @@ fn m2_to_m4_more_hits() {
 
 #[test]
 fn m5_and_m6_a_wrong_score() {
-    let mut shelf = m1_shelf();
-    shelf[20 + 10] = 3;
+    let shelf = m5_shelf();
     assert_eq!(found(1, &shelf).hits, [(4, 11)]);
     assert_eq!(check(&shelf).err(), Some(Refusal { number: 8, offset: 40 }));
     let Err(Stopped { refusal, book: Some(book) }) = search(&m1_query(4), &shelf, WIDE) else { panic!("not stopped") };

@@ -5,6 +5,7 @@ pub mod convert;
 pub mod edit;
 pub mod fields;
 pub mod list;
+pub mod m1;
 pub mod program;
 pub mod prune;
 pub mod query;
