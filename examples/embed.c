@@ -1,10 +1,10 @@
 /* Writes a list, rescores a sheet, turns the list to strips, searches, and shows a refusal. From the repository's root:
  *     rt staticlib embed && cc -Iinclude examples/embed.c target/staticlib/libembed.a -o target/embed && target/embed */
 #include "tagmurlen.h"
+#include "tagmurlen_query.h"
 #include <stdio.h>
 
 int main(void) {
-    const uint8_t query[] = {0x20, 0, 1, 2, 0x21, 0, 5, 0, 0, 0, 7, 10}; /* the best 2 for term 7, weight 10 */
     uint32_t sheets[200];
     uint16_t scores[200];
     uint8_t first[1024], second[1024], shelf[1024];
@@ -24,10 +24,17 @@ int main(void) {
     printf("in strips: %u, %llu bytes\n", number, (unsigned long long)value);
     size_t length = value;
 
+    const uint32_t terms[] = {7};
+    const uint8_t weights[] = {10};
+    uint8_t query[TAGMURLEN_MAX_QUERY]; /* the best 2 for term 7, weight 10 */
+    size_t query_length = tagmurlen_put_query(query, sizeof query, 2, terms, weights, 1);
+    number = tagmurlen_check_query(query, query_length, &value);
+    printf("query: %u, wants %llu rows\n", number, (unsigned long long)value);
+
     uint32_t found[2], summed[2], firsts[TAGMURLEN_MAX_INTERVALS], ceilings[TAGMURLEN_MAX_INTERVALS];
     uint8_t marks[TAGMURLEN_MAX_INTERVALS];
     uint64_t intervals, opened, blocks;
-    number = tagmurlen_search(query, sizeof query, shelf, length, found, 2, summed, 2, firsts, TAGMURLEN_MAX_INTERVALS, ceilings,
+    number = tagmurlen_search(query, query_length, shelf, length, found, 2, summed, 2, firsts, TAGMURLEN_MAX_INTERVALS, ceilings,
                               TAGMURLEN_MAX_INTERVALS, marks, TAGMURLEN_MAX_INTERVALS, &value, &intervals, &opened, &blocks);
     if (number == TAGMURLEN_ACCEPTED)
         for (uint64_t i = 0; i < value; i++)

@@ -3,9 +3,15 @@
  * Every function returns 0 when it accepts its input, or the number of a refusal (enum tagmurlen_refusal). It stores its result through `value`,
  * or the refusal's offset. It reads only what is lent to it, allocates nothing, keeps nothing, and may be called from any number of threads.
  *
- * A pointer is followed by how many elements it points to. It must be aligned and not NULL, even for 0 elements, and what a function may write
- * must not overlap anything else that is lent to the same call. A refusal leaves every lent run as it was, but for the book of a search that
- * stops at a wrong body. */
+ * A pointer is followed by how many elements it points to. For 0 elements it may be NULL or dangle, as an empty container's does: nothing is read or
+ * written through it. Otherwise it must be aligned, and what a function may write must not overlap anything else that is lent to the same call. The
+ * places for numbers, such as `value`, are never NULL. A refusal leaves every lent run as it was, but for the book of a search that stops at a wrong
+ * body.
+ *
+ * No function recurses, and none takes more stack on a larger input: set, clear and withdraw take 39 KB, search 28 KB, rank_all 12 KB, the others less
+ * than 2 KB (`harness/stack` measures it). That is no part of the proof, which is about a machine that has stack enough.
+ *
+ * tagmurlen_query.h writes a query's bytes. */
 #ifndef TAGMURLEN_H
 #define TAGMURLEN_H
 
