@@ -68,11 +68,12 @@ module _ (t : ℕ) (s : List ℕ) (old : List shelf.Listing) (v : List ℕ) (c :
   made-alike f (refused n at) = refl
   made-alike f (done x) = rw (walks-new, walks-old, same-lists (x .terms))
 
-  -- "1 to 5 by the query, 6/7 by the walk, 9, 8": the refusal or the hits
+  -- the exhaustive ranker
   ranks-alike : (q : List ℕ) (rows : ℕ) → rankAll q v rows ≡ rankAll q s rows
   unfolding rankAll
   ranks-alike q rows = made-alike (λ (x : Question) (ls : List Listing). cond (leb (x .k) rows) (exhaustive anyList (x .k) ls) (refused 9 0)) (asked q)
 
+  -- the pruned ranker: what is searched, or the refusal before the search; so the whole answer
   sought-alike : (q : List ℕ) (rows a b c : ℕ) → sought q v rows a b c ≡ sought q s rows a b c
   sought-alike q rows a b c = made-alike (λ (x : Question) (ls : List Listing). cond (leb (x .k) rows) (fitting (x .k) ls a b c) (refused 9 0)) (asked q)
 
