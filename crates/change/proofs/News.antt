@@ -13,7 +13,7 @@ use Rattle.model.specs.Post.{Post, postings, docs, scores}
 use Rattle.model.specs.Runs.{Stored}
 use Rattle.model.proofs.Lists.{map-length}
 use Rattle.model.proofs.Posts.{count-of}
-use Rattle.model.proofs.Storing.{stored-append, stored-as, stored-length, stored-holds, holds-take, part-end}
+use Rattle.model.proofs.Storing.{stored-append, stored-as, stored-holds, part-end}
 use Rattle.block.specs.Summary.{sumOf}
 use Rattle.block.specs.Body.{isStrip}
 use Rattle.shelf.specs.Walk.{postsOf, stripOf, blocksOf, blocksAt}
@@ -23,7 +23,8 @@ use Rattle.list.specs.Fill.{Fillable, Filled}
 use Rattle.list.proofs.Pours.{right-count}
 use Rattle.list.proofs.Packing.{list-size, size-small}
 use Rattle.change.proofs.Copies.{upTo}
-use Rattle.change.specs.Seat.{Holds, stripBy, Stood, packedBytes, spliced, fitting, May, placed}
+use Rattle.change.proofs.Runnings.{Runs, holds-runs}
+use Rattle.change.specs.Seat.{Held, heldBy, stripBy, Stood, packedBytes, spliced, fitting, May, placed}
 use Rattle.change.specs.declared.seat.Seat.{Seat}
 use Rattle.change.specs.declared.seat.Seat.the-variants.{Taken, Free}
 
@@ -33,26 +34,19 @@ first-strip : (n a : ℕ) (m : List ℕ) (b : ℕ) (s : List ℕ) → stripOf (b
 unfolding blocksOf sumOf
 first-strip n a m b s = refl
 
-pub held-taken : (s : List ℕ) (p : Place) (ds ss ds′ ss′ : List ℕ) (r : ℕ) → Fillable s p (length ds) (length ss) → Filled s p ds ss ds′ ss′ r → Holds s (Taken p) ds ss r ds′ ss′
+pub held-taken : (s : List ℕ) (p : Place) (ds ss ds′ ss′ : List ℕ) (r : ℕ) → Fillable s p (length ds) (length ss) → Filled s p ds ss ds′ ss′ r → Held s (Taken p) ds ss r ds′ ss′
 held-taken s p ds ss ds′ ss′ r h f =
     let ps = postsOf (blocksAt s (p .at) (p .count)) in
     let n = right-count (blocksAt s (p .at) (p .count)) (h .right) in
     let d : length (docs ps) ≡ length ps = map-length (λ (q : Post). q .doc) ps in
     let w : length (scores ps) ≡ length ps = map-length (λ (q : Post). q .score) ps in
-    let ld = stored-length (f .docids) in
-    let lw = stored-length (f .scored) in
-    record {
-      alike = record { docids = ld; scored = lw };
-      held = record {
-        roomy = omega (arith, h .roomy, f .docids .past);
-        wide = omega (arith, h .wide, f .docids .past);
-        docids = holds-take ds (docs ps) ds′ r (stored-holds (omega (arith, h .roomy)) (f .docids));
-        scored = holds-take ss (scores ps) ss′ r (stored-holds (omega (arith, h .wide)) (f .scored));
-      };
-    }
+    record { docids = stored-holds (omega (arith, h .roomy)) (f .docids); scored = stored-holds (omega (arith, h .wide)) (f .scored) }
 
-pub held-none : (s : List ℕ) (at : ℕ) (ds ss : List ℕ) → Holds s (Free at) ds ss 0 ds ss
-held-none s at ds ss = record { alike = record { docids = refl; scored = refl }; held = record { roomy = omega arith; wide = omega arith; docids = refl; scored = refl } }
+pub held-none : (s : List ℕ) (at : ℕ) (ds ss : List ℕ) → Held s (Free at) ds ss 0 ds ss
+held-none s at ds ss = record { docids = record { count = refl; whole = refl }; scored = record { count = refl; whole = refl } }
+
+pub held-runs : {s : List ℕ} {seat : Seat} {r : ℕ} {ds ss ds′ ss′ : List ℕ} → Held s seat ds ss r ds′ ss′ → Runs ds′ ss′ r (heldBy s seat)
+held-runs {s} {seat} h = holds-runs (heldBy s seat) (h .docids) (h .scored)
 
 -- the layout of a seat's list, by its first body
 pub strip-taken : (s : List ℕ) (p : Place) → Stood (Taken p) → stripBy s (Taken p) ≡ isStrip (drop (p .at + 8 + 12 * p .count) s)

@@ -1,5 +1,5 @@
 -- Loops over two runs, in place: one posting taken out, one put in. Assumes nothing.
-use Prim.Native.Nat.{ℕ, _+_, _≤_, _<_}
+use Prim.Native.Nat.{ℕ, _+_, _-_, _≤_, _<_}
 use native.Mathlib.Omega.{arith}
 use native.Mathlib.Numerals.{add-one}
 use mathlib.Core.Path.{_≡_, refl, sym, ap, subst, _∙_}
@@ -7,18 +7,30 @@ use mathlib.Core.List.{List, [], _∷_, _++_, append-assoc}
 use mathlib.Core.Bool.{true, false}
 use borrow.Author.Tests.{lt-ltb, eq-eqb, ne-eqb}
 use lib.Dec.{ltb, eqb}
-use lib.ListN.{length, getD, set, take, drop, length-set, drop-of-length-le}
-use lib.Seq.{take-suc, take-set-le, drop-set-lt, drop-drop, getD-drop, getD-take, drop-cons, length-take-le}
+use lib.ListN.{length, getD, set, take, drop, length-set, length-append, length-drop, drop-of-length-le}
+use lib.Seq.{take-suc, drop-drop, getD-drop, getD-take, drop-cons, length-take-le}
 use Rattle.model.specs.Post.{Post, post, postings, docs, scores, Rising}
-use Rattle.model.specs.Runs.{has}
+use Rattle.model.specs.Runs.{has, Holds}
 use Rattle.model.proofs.Lists.{split, both-ways, map-length, getD-map}
-use Rattle.model.proofs.Storing.{front-more}
+use Rattle.model.proofs.Storing.{front-more, past-more, run-holds, holds-take, holds-drop}
 use Rattle.change.specs.Edits.{setPost, clearPost}
-use Rattle.change.specs.Runs.{Runs, Alike, Clears, Inserts, lowerOf, upperOf}
+use Rattle.change.specs.Runs.{front, Clears, Insertable, Inserts, lowerOf, upperOf}
 use Rattle.change.proofs.Postings.{rising-less}
 use Rattle.change.specs.declared.runs.Posting.{Posting}
 
 -- ---- postings and their two runs
+
+-- the first n numbers of two runs are these postings
+pub record Runs (ds ss : List ℕ) (n : ℕ) (ps : List Post) : Type 0 where
+  pub roomy : n ≤ length ds
+  pub wide : n ≤ length ss
+  pub docids : take n ds ≡ docs ps
+  pub scored : take n ss ≡ scores ps
+
+-- two runs after a write, as long as before
+pub record Alike (ds ss ds′ ss′ : List ℕ) : Type 0 where
+  pub docids : length ds′ ≡ length ds
+  pub scored : length ss′ ≡ length ss
 
 pub docs-append : (xs ys : List Post) → docs (xs ++ ys) ≡ docs xs ++ docs ys
 docs-append [] ys = refl
@@ -38,9 +50,22 @@ postings-append [] (b ∷ bs) cs es e = absurd (omega arith)
 postings-append (a ∷ xs) [] cs es e = absurd (omega arith)
 postings-append (a ∷ xs) (b ∷ bs) cs es e = ap {B = List Post} (λ t. post a b ∷ t) (postings-append xs bs cs es (omega arith))
 
--- the first i postings of two runs
-abbrev front : ℕ → List ℕ → List ℕ → List Post
-front i ds ss = postings (take i ds) (take i ss)
+docs-own : (xs ys : List ℕ) → length xs ≡ length ys → docs (postings xs ys) ≡ xs
+docs-own [] ys e = refl
+docs-own (x ∷ xs) [] e = absurd (omega arith)
+docs-own (x ∷ xs) (y ∷ ys) e = ap {B = List ℕ} (λ t. x ∷ t) (docs-own xs ys (omega arith))
+
+scores-own : (xs ys : List ℕ) → length xs ≡ length ys → scores (postings xs ys) ≡ ys
+scores-own [] [] e = refl
+scores-own [] (y ∷ ys) e = absurd (omega arith)
+scores-own (x ∷ xs) [] e = absurd (omega arith)
+scores-own (x ∷ xs) (y ∷ ys) e = ap {B = List ℕ} (λ t. y ∷ t) (scores-own xs ys (omega arith))
+
+-- two runs and their first n postings
+front-runs : (ds ss : List ℕ) (n : ℕ) → n ≤ length ds → n ≤ length ss → Runs ds ss n (front n ds ss)
+front-runs ds ss n h k =
+    let e : length (take n ds) ≡ length (take n ss) = omega (arith, length-take-le n ds h, length-take-le n ss k) in
+    record { roomy = h; wide = k; docids = sym (docs-own (take n ds) (take n ss) e); scored = sym (scores-own (take n ds) (take n ss) e) }
 
 front-more′ : (i : ℕ) (ds ss : List ℕ) → i < length ds → i < length ss → front (i + 1) ds ss ≡ front i ds ss ++ (post (getD ds i 0) (getD ss i 0) ∷ [])
 front-more′ i ds ss h k =
@@ -59,10 +84,32 @@ same-at i l m e =
     let z : i + 0 ≡ i = omega arith in
     rw z at (sym (getD-drop i m 0 0) ∙ ap (λ (t : List ℕ). getD t 0 0) e ∙ getD-drop i l 0 0)
 
--- a store at j ≤ i leaves what lies past i
-past-i : (i j x : ℕ) (l m : List ℕ) → j ≤ i → drop i m ≡ drop i l → drop (i + 1) (set m j x) ≡ drop (i + 1) l
-past-i i j x l m h e =
-    drop-set-lt (i + 1) m j x (omega arith) ∙ sym (drop-drop 1 i m) ∙ ap {B = List ℕ} (λ t. drop 1 t) e ∙ drop-drop 1 i l
+-- ---- a run written in front
+
+module _ {old xs new : List ℕ} {r : ℕ} (h : Holds old xs new r) where
+  holds-room : r ≤ length new
+  holds-room = omega (arith, h .count, ap length (h .whole), length-append xs (drop r old))
+
+  pub holds-length : r ≤ length old → length new ≡ length old
+  holds-length l = omega (arith, h .count, ap length (h .whole), length-append xs (drop r old), length-drop r old)
+
+  -- one more is written
+  holds-more : (x : ℕ) → r < length new → Holds old (xs ++ (x ∷ [])) (set new r x) (r + 1)
+  holds-more x l =
+      run-holds old (xs ++ (x ∷ [])) (set new r x) (r + 1) (simp length-set (omega arith))
+      (front-more new r x l ∙ ap {B = List ℕ} (λ t. t ++ (x ∷ [])) (holds-take old xs new r h))
+      (past-more old new r x (holds-drop old xs new r h))
+
+  -- what stands past it is as it was
+  past-at : (i : ℕ) → r ≤ i → getD new i 0 ≡ getD old i 0
+  past-at i l =
+      let z : r + (i - r) ≡ i = omega arith in
+      rw z at (sym (getD-drop r new (i - r) 0) ∙ ap (λ (t : List ℕ). getD t (i - r) 0) (holds-drop old xs new r h) ∙ getD-drop r old (i - r) 0)
+
+-- postings in front of two runs
+pub holds-runs : {ds ss ds′ ss′ : List ℕ} {r : ℕ} (ps : List Post) → Holds ds (docs ps) ds′ r → Holds ss (scores ps) ss′ r → Runs ds′ ss′ r ps
+holds-runs {ds} {ss} {ds′} {ss′} {r} ps h k =
+    record { roomy = holds-room h; wide = holds-room k; docids = holds-take ds (docs ps) ds′ r h; scored = holds-take ss (scores ps) ss′ r k }
 
 append-none : (xs : List Post) → xs ++ [] ≡ xs
 append-none [] = refl
@@ -79,9 +126,8 @@ pub record Clearing (d n : ℕ) (ds₀ ss₀ ds ss : List ℕ) (i j : ℕ) : Typ
   pub alike : Alike ds₀ ss₀ ds ss
   pub order : j ≤ i
   pub most : i ≤ n
-  pub pastd : drop i ds ≡ drop i ds₀
-  pub pasts : drop i ss ≡ drop i ss₀
-  pub stay : Runs ds ss j (clearPost d (front i ds₀ ss₀))
+  pub docids : Holds ds₀ (docs (clearPost d (front i ds₀ ss₀))) ds j
+  pub scored : Holds ss₀ (scores (clearPost d (front i ds₀ ss₀))) ss j
 
 module _ (d n : ℕ) (ds₀ ss₀ : List ℕ) (roomy : n ≤ length ds₀) (wide : n ≤ length ss₀) where
   pub clear-start : Clearing d n ds₀ ss₀ ds₀ ss₀ 0 0
@@ -90,66 +136,63 @@ module _ (d n : ℕ) (ds₀ ss₀ : List ℕ) (roomy : n ≤ length ds₀) (wide
         alike = record { docids = refl; scored = refl };
         order = omega arith;
         most = omega arith;
-        pastd = refl;
-        pasts = refl;
-        stay = record { roomy = omega arith; wide = omega arith; docids = refl; scored = refl };
+        docids = record { count = refl; whole = refl };
+        scored = record { count = refl; whole = refl };
       }
 
   module _ (ds ss : List ℕ) (i j : ℕ) (l : i < n) (c : Clearing d n ds₀ ss₀ ds ss i j) where
     one-more : clearPost d (front (i + 1) ds₀ ss₀) ≡ clearPost d (front i ds₀ ss₀) ++ clearPost d (post (getD ds i 0) (getD ss i 0) ∷ [])
     one-more =
-        rw (front-more′ i ds₀ ss₀ (omega arith) (omega arith), same-at i ds₀ ds (c .pastd), same-at i ss₀ ss (c .pasts))
+        rw (front-more′ i ds₀ ss₀ (omega arith) (omega arith), past-at (c .docids) i (c .order), past-at (c .scored) i (c .order))
         (clear-append d (front i ds₀ ss₀) (post (getD ds₀ i 0) (getD ss₀ i 0) ∷ []))
-
-    alike′ : Alike ds₀ ss₀ (set ds j (getD ds i 0)) (set ss j (getD ss i 0))
-    alike′ = record { docids = length-set ds j (getD ds i 0) ∙ c .alike .docids; scored = length-set ss j (getD ss i 0) ∙ c .alike .scored }
 
     pub clear-stays : (getD ds i 0 ≡ d → ⊥) → Clearing d n ds₀ ss₀ (set ds j (getD ds i 0)) (set ss j (getD ss i 0)) (i + 1) (j + 1)
     clear-stays ne =
         let kept = clearPost d (front i ds₀ ss₀) in
-        let q = post (getD ds i 0) (getD ss i 0) in
-        let f : eqb d (getD ds i 0) ≡ false = ne-eqb d (getD ds i 0) (λ (z : d ≡ getD ds i 0). ne (sym z)) in
-        let e : clearPost d (front (i + 1) ds₀ ss₀) ≡ kept ++ (q ∷ []) = one-more ∙ rw f in
+        let x = getD ds i 0 in
+        let y = getD ss i 0 in
+        let f : eqb d x ≡ false = ne-eqb d x (λ (z : d ≡ x). ne (sym z)) in
+        let e : clearPost d (front (i + 1) ds₀ ss₀) ≡ kept ++ (post x y ∷ []) = one-more ∙ rw f in
         record {
-          alike = alike′;
+          alike = record { docids = length-set ds j x ∙ c .alike .docids; scored = length-set ss j y ∙ c .alike .scored };
           order = omega (arith, c .order);
           most = omega arith;
-          pastd = past-i i j (getD ds i 0) ds₀ ds (c .order) (c .pastd);
-          pasts = past-i i j (getD ss i 0) ss₀ ss (c .order) (c .pasts);
-          stay = record {
-            roomy = simp length-set (omega (arith, c .order, c .alike .docids));
-            wide = simp length-set (omega (arith, c .order, c .alike .scored));
-            docids = front-more ds j (getD ds i 0) (omega (arith, c .order, c .alike .docids)) ∙ rw (c .stay .docids, e) (sym (docs-append kept (q ∷ [])));
-            scored = front-more ss j (getD ss i 0) (omega (arith, c .order, c .alike .scored)) ∙ rw (c .stay .scored, e) (sym (scores-append kept (q ∷ [])));
-          };
+          docids = subst (λ (v : List ℕ). Holds ds₀ v (set ds j x) (j + 1)) (sym (ap docs e ∙ docs-append kept (post x y ∷ []))) (holds-more (c .docids) x (omega (arith, c .order, c .alike .docids)));
+          scored = subst (λ (v : List ℕ). Holds ss₀ v (set ss j y) (j + 1)) (sym (ap scores e ∙ scores-append kept (post x y ∷ []))) (holds-more (c .scored) y (omega (arith, c .order, c .alike .scored)));
         }
 
-    pub clear-goes : getD ds i 0 ≡ d → Clearing d n ds₀ ss₀ (set ds j (getD ds i 0)) (set ss j (getD ss i 0)) (i + 1) j
+    pub clear-goes : getD ds i 0 ≡ d → Clearing d n ds₀ ss₀ ds ss (i + 1) j
     clear-goes eq =
         let kept = clearPost d (front i ds₀ ss₀) in
         let f : eqb d (getD ds i 0) ≡ true = eq-eqb d (getD ds i 0) (sym eq) in
         let e : clearPost d (front (i + 1) ds₀ ss₀) ≡ kept = one-more ∙ rw f (append-none kept) in
         record {
-          alike = alike′;
+          alike = c .alike;
           order = omega (arith, c .order);
           most = omega arith;
-          pastd = past-i i j (getD ds i 0) ds₀ ds (c .order) (c .pastd);
-          pasts = past-i i j (getD ss i 0) ss₀ ss (c .order) (c .pasts);
-          stay = record {
-            roomy = simp length-set (omega (arith, c .order, c .alike .docids));
-            wide = simp length-set (omega (arith, c .order, c .alike .scored));
-            docids = take-set-le j ds j (getD ds i 0) (omega arith) ∙ rw (c .stay .docids, e);
-            scored = take-set-le j ss j (getD ss i 0) (omega arith) ∙ rw (c .stay .scored, e);
-          };
+          docids = subst (λ (v : List ℕ). Holds ds₀ v ds j) (sym (ap docs e)) (c .docids);
+          scored = subst (λ (v : List ℕ). Holds ss₀ v ss j) (sym (ap scores e)) (c .scored);
         }
+
+  -- the same runs by other names
+  pub clear-as : (i : ℕ) {ds ss ds′ ss′ : List ℕ} {j j′ : ℕ} → ds′ ≡ ds → ss′ ≡ ss → j′ ≡ j → Clearing d n ds₀ ss₀ ds ss i j → Clearing d n ds₀ ss₀ ds′ ss′ i j′
+  clear-as i {ds} {ss} {ds′} {ss′} {j} {j′} e f g c =
+      subst (λ (x : List ℕ). Clearing d n ds₀ ss₀ x ss′ i j′) (sym e)
+      (subst (λ (x : List ℕ). Clearing d n ds₀ ss₀ ds x i j′) (sym f)
+      (subst (λ (k : ℕ). Clearing d n ds₀ ss₀ ds ss i k) (sym g) c))
 
   pub clear-done : (ds ss : List ℕ) (i j : ℕ) → n ≤ i → Clearing d n ds₀ ss₀ ds ss i j → Clears d n ds₀ ss₀ j ds ss
   clear-done ds ss i j h c =
       let q : i ≡ n = omega (arith, c .most) in
       record {
-        alike = c .alike;
-        cleared = λ ps r. subst (λ (x : List Post). Runs ds ss j (clearPost d x)) (ap (λ (k : ℕ). front k ds₀ ss₀) q ∙ runs-front ds₀ ss₀ n ps r) (c .stay);
+        docids = subst (λ (k : ℕ). Holds ds₀ (docs (clearPost d (front k ds₀ ss₀))) ds j) q (c .docids);
+        scored = subst (λ (k : ℕ). Holds ss₀ (scores (clearPost d (front k ds₀ ss₀))) ss j) q (c .scored);
       }
+
+-- the same for the postings that two runs are known to hold
+pub clears-runs : {d n r : ℕ} {ds ss ds′ ss′ : List ℕ} {ps : List Post} → Runs ds ss n ps → Clears d n ds ss r ds′ ss′ → Runs ds′ ss′ r (clearPost d ps)
+clears-runs {d} {n} {r} {ds} {ss} {ds′} {ss′} {ps} k c =
+    subst (λ (x : List Post). Runs ds′ ss′ r (clearPost d x)) (runs-front ds ss n ps k) (holds-runs (clearPost d (front n ds ss)) (c .docids) (c .scored))
 
 -- ---- putting one in
 
@@ -177,7 +220,7 @@ pub record Inserting (d w n : ℕ) (ds₀ ss₀ ds ss : List ℕ) (i : ℕ) (c :
   pub most : i ≤ n
   pub pastd : drop i ds ≡ drop i ds₀
   pub pasts : drop i ss ≡ drop i ss₀
-  pub carried : (ps : List Post) → Rising 0 ps → has d (docs ps) ≡ false → Runs ds₀ ss₀ n ps → Carried d w ps ds ss i c
+  pub carried : Carried d w (front n ds₀ ss₀) ds ss i c
 
 -- q goes to place i, and c is carried on
 carry-on : (d w : ℕ) (ps : List Post) (ds ss : List ℕ) (i x y : ℕ) (c e : Posting) (rest : List Post) → i < length ds → i < length ss → (k : Carried d w ps ds ss i c) → drop (i + 1) ps ≡ rest →
@@ -218,7 +261,7 @@ carry-turn d w n ds₀ ss₀ ds ss ps i x y c h l e k =
     (λ g. both-ways (has (c .doc) (docs (post x y ∷ rest))) (rw g) f)
     (λ g. rw t (carry-on d w ps ds ss i x y c c rest h l k refl (rw (e, t, g)) r0 (rw g at f))))
 
-module _ (d w n : ℕ) (ds₀ ss₀ : List ℕ) (roomy : n < length ds₀) (wide : n < length ss₀) where
+module _ (d w n : ℕ) (ds₀ ss₀ : List ℕ) (o : Insertable d n ds₀ ss₀) where
   pub insert-start : Inserting d w n ds₀ ss₀ ds₀ ss₀ 0 (record { doc = d; score = w })
   insert-start =
       record {
@@ -226,8 +269,11 @@ module _ (d w n : ℕ) (ds₀ ss₀ : List ℕ) (roomy : n < length ds₀) (wide
         most = omega arith;
         pastd = refl;
         pasts = refl;
-        carried = λ ps r f k. record { placed = []; docids = refl; scored = refl; whole = refl; rise = r; free = f };
+        carried = record { placed = []; docids = refl; scored = refl; whole = refl; rise = o .rise; free = o .free };
       }
+
+  own-runs : Runs ds₀ ss₀ n (front n ds₀ ss₀)
+  own-runs = front-runs ds₀ ss₀ n (omega (arith, o .roomy)) (omega (arith, o .wide))
 
   module _ (ds ss : List ℕ) (i : ℕ) (c : Posting) (k : Inserting d w n ds₀ ss₀ ds ss i c) where
     turn-own : (x y : ℕ) → i < n → x ≡ getD ds i 0 → y ≡ getD ss i 0 →
@@ -235,14 +281,14 @@ module _ (d w n : ℕ) (ds₀ ss₀ : List ℕ) (roomy : n < length ds₀) (wide
     turn-own x y l ex ey =
         let a = lowerOf c (record { doc = x; score = y }) .doc in
         let b = lowerOf c (record { doc = x; score = y }) .score in
+        let ps = front n ds₀ ss₀ in
+        let p : drop i ps ≡ post x y ∷ drop (i + 1) ps = rw (ex, ey, same-at i ds₀ ds (k .pastd), same-at i ss₀ ss (k .pasts)) (here-is n i ds₀ ss₀ ps l own-runs) in
         record {
           alike = record { docids = length-set ds i a ∙ k .alike .docids; scored = length-set ss i b ∙ k .alike .scored };
           most = omega arith;
-          pastd = past-i i i a ds₀ ds (omega arith) (k .pastd);
-          pasts = past-i i i b ss₀ ss (omega arith) (k .pasts);
-          carried = λ ps r f q.
-              let p : drop i ps ≡ post x y ∷ drop (i + 1) ps = rw (ex, ey, same-at i ds₀ ds (k .pastd), same-at i ss₀ ss (k .pasts)) (here-is n i ds₀ ss₀ ps l q) in
-              carry-turn d w n ds₀ ss₀ ds ss ps i x y c (omega (arith, k .alike .docids)) (omega (arith, k .alike .scored)) p (k .carried ps r f q);
+          pastd = past-more ds₀ ds i a (k .pastd);
+          pasts = past-more ss₀ ss i b (k .pasts);
+          carried = carry-turn d w n ds₀ ss₀ ds ss ps i x y c (omega (arith, o .roomy, k .alike .docids)) (omega (arith, o .wide, k .alike .scored)) p (k .carried);
         }
 
     -- the lower posting is put at i, the upper one is carried on
@@ -254,21 +300,31 @@ module _ (d w n : ℕ) (ds₀ ss₀ : List ℕ) (roomy : n < length ds₀) (wide
 
     pub insert-done : n ≤ i → Inserts d w n ds₀ ss₀ (n + 1) (set ds n (c .doc)) (set ss n (c .score))
     insert-done h =
+        let ps = front n ds₀ ss₀ in
         let z : i ≡ n = omega (arith, k .most) in
+        let g = k .carried in
+        let short : length ps ≤ i = omega (arith, runs-length ds₀ ss₀ n ps own-runs) in
+        let none : drop i ps ≡ [] = drop-of-length-le ps short in
+        let all : g .placed ++ (post (c .doc) (c .score) ∷ []) ≡ setPost d w ps = rw none at (g .whole) in
+        let dd : take n ds ≡ docs (g .placed) = rw z at (g .docids) in
+        let dw : take n ss ≡ scores (g .placed) = rw z at (g .scored) in
+        let pd : drop n ds ≡ drop n ds₀ = rw z at (k .pastd) in
+        let pw : drop n ss ≡ drop n ss₀ = rw z at (k .pasts) in
+        let ld : n < length ds = omega (arith, o .roomy, k .alike .docids) in
+        let lw : n < length ss = omega (arith, o .wide, k .alike .scored) in
         record {
-          alike = record { docids = length-set ds n (c .doc) ∙ k .alike .docids; scored = length-set ss n (c .score) ∙ k .alike .scored };
-          count = refl;
-          inserted = λ ps r f q.
-              let g = k .carried ps r f q in
-              let short : length ps ≤ i = omega (arith, runs-length ds₀ ss₀ n ps q) in
-              let none : drop i ps ≡ [] = drop-of-length-le ps short in
-              let all : g .placed ++ (post (c .doc) (c .score) ∷ []) ≡ setPost d w ps = rw none at (g .whole) in
-              let dd : take n ds ≡ docs (g .placed) = rw z at (g .docids) in
-              let dw : take n ss ≡ scores (g .placed) = rw z at (g .scored) in
-              record {
-                roomy = simp length-set (omega (arith, k .alike .docids));
-                wide = simp length-set (omega (arith, k .alike .scored));
-                docids = front-more ds n (c .doc) (omega (arith, k .alike .docids)) ∙ rw (dd, ← all) (sym (docs-append (g .placed) (post (c .doc) (c .score) ∷ [])));
-                scored = front-more ss n (c .score) (omega (arith, k .alike .scored)) ∙ rw (dw, ← all) (sym (scores-append (g .placed) (post (c .doc) (c .score) ∷ [])));
-              };
+          docids = run-holds ds₀ (docs (setPost d w ps)) (set ds n (c .doc)) (n + 1) (simp length-set (omega arith))
+              (front-more ds n (c .doc) ld ∙ rw (dd, ← all) (sym (docs-append (g .placed) (post (c .doc) (c .score) ∷ [])))) (past-more ds₀ ds n (c .doc) pd);
+          scored = run-holds ss₀ (scores (setPost d w ps)) (set ss n (c .score)) (n + 1) (simp length-set (omega arith))
+              (front-more ss n (c .score) lw ∙ rw (dw, ← all) (sym (scores-append (g .placed) (post (c .doc) (c .score) ∷ [])))) (past-more ss₀ ss n (c .score) pw);
         }
+
+-- the same for the postings that two runs are known to hold
+pub runs-insertable : {d n : ℕ} {ds ss : List ℕ} {ps : List Post} → Runs ds ss n ps → n < length ds → n < length ss → Rising 0 ps → has d (docs ps) ≡ false → Insertable d n ds ss
+runs-insertable {d} {n} {ds} {ss} {ps} k h l r f =
+    let e = runs-front ds ss n ps k in
+    record { roomy = h; wide = l; rise = rw e r; free = rw e f }
+
+pub inserts-runs : {d w n r : ℕ} {ds ss ds′ ss′ : List ℕ} {ps : List Post} → Runs ds ss n ps → Inserts d w n ds ss r ds′ ss′ → Runs ds′ ss′ r (setPost d w ps)
+inserts-runs {d} {w} {n} {r} {ds} {ss} {ds′} {ss′} {ps} k c =
+    subst (λ (x : List Post). Runs ds′ ss′ r (setPost d w x)) (runs-front ds ss n ps k) (holds-runs (setPost d w (front n ds ss)) (c .docids) (c .scored))

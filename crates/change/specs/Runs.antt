@@ -1,37 +1,35 @@
 -- The private contracts of the edits' code on two runs. Assumes nothing.
-use Prim.Native.Nat.{ℕ, _+_, _≤_, _<_}
+use Prim.Native.Nat.{ℕ, _<_}
 use mathlib.Core.Path.{_≡_}
 use mathlib.Core.List.{List}
 use mathlib.Core.Bool.{cond, false}
 use lib.Dec.{ltb}
 use lib.ListN.{length, take}
-use Rattle.model.specs.Post.{Post, docs, scores, Rising}
-use Rattle.model.specs.Runs.{has}
+use Rattle.model.specs.Post.{Post, postings, docs, scores, Rising}
+use Rattle.model.specs.Runs.{has, Holds}
 use Rattle.change.specs.Edits.{setPost, clearPost}
 use Rattle.change.specs.declared.runs.Posting.{Posting}
 
--- the first n numbers of two runs are these postings
-pub record Runs (ds ss : List ℕ) (n : ℕ) (ps : List Post) : Type 0 where
-  pub roomy : n ≤ length ds
-  pub wide : n ≤ length ss
-  pub docids : take n ds ≡ docs ps
-  pub scored : take n ss ≡ scores ps
+-- the first n postings of two runs
+abbrev pub front : ℕ → List ℕ → List ℕ → List Post
+front n ds ss = postings (take n ds) (take n ss)
 
--- two runs after a write, as long as before
-pub record Alike (ds ss ds′ ss′ : List ℕ) : Type 0 where
-  pub docids : length ds′ ≡ length ds
-  pub scored : length ss′ ≡ length ss
-
--- a docid was taken out
+-- a docid was taken out of them: those that stay are in front, and what lies past them is as it was
 pub record Clears (d n : ℕ) (ds ss : List ℕ) (r : ℕ) (ds′ ss′ : List ℕ) : Type 0 where
-  pub alike : Alike ds ss ds′ ss′
-  pub cleared : (ps : List Post) → Runs ds ss n ps → Runs ds′ ss′ r (clearPost d ps)
+  pub docids : Holds ds (docs (clearPost d (front n ds ss))) ds′ r
+  pub scored : Holds ss (scores (clearPost d (front n ds ss))) ss′ r
 
--- a posting was put in, into runs that rise and do not hold its docid
+-- there is room for one more, and they rise and do not hold docid d
+pub record Insertable (d n : ℕ) (ds ss : List ℕ) : Type 0 where
+  pub roomy : n < length ds
+  pub wide : n < length ss
+  pub rise : Rising 0 (front n ds ss)
+  pub free : has d (docs (front n ds ss)) ≡ false
+
+-- a posting was put in among them, and what lies past them is as it was
 pub record Inserts (d w n : ℕ) (ds ss : List ℕ) (r : ℕ) (ds′ ss′ : List ℕ) : Type 0 where
-  pub alike : Alike ds ss ds′ ss′
-  pub count : r ≡ n + 1
-  pub inserted : (ps : List Post) → Rising 0 ps → has d (docs ps) ≡ false → Runs ds ss n ps → Runs ds′ ss′ r (setPost d w ps)
+  pub docids : Holds ds (docs (setPost d w (front n ds ss))) ds′ r
+  pub scored : Holds ss (scores (setPost d w (front n ds ss))) ss′ r
 
 -- of two postings the one of the lesser docid, and the other
 abbrev pub lowerOf : Posting → Posting → Posting

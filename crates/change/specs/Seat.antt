@@ -7,15 +7,19 @@ use lib.Dec.{leb, ltb, eqb}
 use lib.ListN.{length, take, drop}
 use Rattle.model.specs.Limits.{maxPostings, maxLists, maxShelf}
 use Rattle.model.specs.Outcome.{Outcome, refused, done}
-use Rattle.model.specs.Post.{Post, postings}
+use Rattle.model.specs.Post.{Post, postings, docs, scores}
+use Rattle.model.specs.Runs.{Holds}
 use Rattle.shelf.specs.Walk.{Listing, postsOf, stripOf, blocksAt}
 use Rattle.shelf.specs.Check.{checked, judged}
 use Rattle.shelf.specs.declared.walk.Place.{Place}
 use Rattle.list.specs.Write.{listBytes, Writable}
 use Rattle.list.specs.Fill.{Fillable}
-use Rattle.change.specs.Runs.{Runs, Alike}
 use Rattle.change.specs.declared.seat.Seat.{Seat}
 use Rattle.change.specs.declared.seat.Seat.the-variants.{Taken, Free}
+
+-- the checker finds nothing
+abbrev pub Sounds : List ℕ → Type 0
+Sounds s = judged (checked s) ≡ done tt
 
 -- the list of term t among lists that begin at `at`, or the place before the first list of a higher term
 abbrev pub seatOf : (t at : ℕ) → List Listing → Seat
@@ -44,9 +48,10 @@ abbrev pub Fills : List ℕ → Seat → (d w : ℕ) → Type 0
 Fills s (Taken p) d w = Fillable s p d w
 Fills s (Free at) d w = Unit {0}
 
-pub record Holds (s : List ℕ) (seat : Seat) (ds ss : List ℕ) (r : ℕ) (ds′ ss′ : List ℕ) : Type 0 where
-  pub alike : Alike ds ss ds′ ss′
-  pub held : Runs ds′ ss′ r (heldBy s seat)
+-- its postings are in front, and what lies past them is as it was
+pub record Held (s : List ℕ) (seat : Seat) (ds ss : List ℕ) (r : ℕ) (ds′ ss′ : List ℕ) : Type 0 where
+  pub docids : Holds ds (docs (heldBy s seat)) ds′ r
+  pub scored : Holds ss (scores (heldBy s seat)) ss′ r
 
 -- ---- a list in place of the bytes from `at` to `next`
 
@@ -92,16 +97,13 @@ placed s n seat t ps room =
 
 -- a seat of a sound shelf, and two runs whose postings may be written if they are few
 pub record Placeable (s : List ℕ) (seat : Seat) (ds ss : List ℕ) : Type 0 where
+  pub sound : Sounds s
   pub stood : Stood seat
   pub short : length s ≤ maxShelf
   pub order : seatAt seat ≤ seatNext seat
   pub inside : seatNext seat ≤ length s
   pub same : length ds ≡ length ss
   pub may : length ds ≤ maxPostings → May ds ss
-
--- the checker finds nothing
-abbrev pub Sounds : List ℕ → Type 0
-Sounds s = judged (checked s) ≡ done tt
 
 -- two runs with room for any list and one posting more
 pub record Wide (ds ss : List ℕ) : Type 0 where

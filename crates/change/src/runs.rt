@@ -1,8 +1,8 @@
 // One posting put into two runs, or taken out of them, in place.
 ghost use mathlib.Core.Path.{_≡_};
-ghost use Prim.Native.Nat.{_<_, _≤_};
+ghost use Prim.Native.Nat.{_≤_};
 ghost use lib.ListN.{length};
-ghost use Rattle.change.specs.Runs.{Clears, Inserts, lowerOf, upperOf};
+ghost use Rattle.change.specs.Runs.{Clears, Insertable, Inserts, lowerOf, upperOf};
 
 // Takes the posting of a docid out of the first `n` of two runs, and gives how many are left.
 pub fn without(docs: &mut [u32], scores: &mut [u16], n: usize, d: u32) -> usize
@@ -14,9 +14,9 @@ pub fn without(docs: &mut [u32], scores: &mut [u16], n: usize, d: u32) -> usize
     while i < n {
         let x = docs[i];
         let y = scores[i];
-        docs[j] = x;
-        scores[j] = y;
         if x != d {
+            docs[j] = x;
+            scores[j] = y;
             j += 1;
         }
         i += 1;
@@ -43,9 +43,9 @@ fn upper(a: Posting, b: Posting) -> Posting
     if a.doc < b.doc { b } else { a }
 }
 
-// Puts a posting, whose docid they do not hold, into its place among the first `n` of two runs: those above it move up by one.
+// Puts a posting, whose docid they do not hold, into its place among the first `n` of two runs, which rise: those above it move up by one.
 pub fn insert(docs: &mut [u32], scores: &mut [u16], n: usize, d: u32, w: u16) -> usize
-    requires { ⌜ (n < length (now docs)) × (n < length (now scores)) ⌝ }
+    requires { ⌜ Insertable d n (now docs) (now scores) ⌝ }
     ensures { λ r. ⌜ Inserts d w n (now (docs .entry)) (now (scores .entry)) r (now (docs .exit)) (now (scores .exit)) ⌝ }
 {
     let mut i = 0;

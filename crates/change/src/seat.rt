@@ -5,7 +5,7 @@ ghost use lib.ListN.{length};
 ghost use Rattle.model.specs.Outcome.{done};
 ghost use Rattle.shelf.specs.Walk.{Listing};
 ghost use Rattle.shelf.specs.Check.{checked};
-ghost use Rattle.change.specs.Seat.{seatOf, Fills, Holds, stripBy, Stood};
+ghost use Rattle.change.specs.Seat.{Sounds, seatOf, Fills, Held, stripBy, Stood};
 use shelf::walk::ListRead;
 use shelf::walk::Place;
 
@@ -15,7 +15,9 @@ pub enum Seat {
     Free(usize),
 }
 
+// The seat of a term in a sound shelf.
 pub fn find_seat(s: &[u8], term: u32) -> Seat
+    requires { ⌜ Sounds (now s) ⌝ }
     ensures { λ r. ⌜ ((ls : List Listing) → checked (now (s .entry)) ≡ done ls → r ≡ seatOf term 0 ls) ⌝ }
 {
     let mut at: usize = 0;
@@ -42,6 +44,7 @@ pub fn find_seat(s: &[u8], term: u32) -> Seat
 
 // How many lists a sound shelf has.
 pub(crate) fn lists_in(s: &[u8]) -> usize
+    requires { ⌜ Sounds (now s) ⌝ }
     ensures { λ r. ⌜ ((ls : List Listing) → checked (now (s .entry)) ≡ done ls → r ≡ length ls) ⌝ }
 {
     let mut at: usize = 0;
@@ -65,7 +68,7 @@ pub(crate) fn lists_in(s: &[u8]) -> usize
 // The postings of a seat's list, put at the front of two runs that have room for them; gives how many there are.
 pub fn held(s: &[u8], seat: Seat, docs: &mut [u32], scores: &mut [u16]) -> usize
     requires { ⌜ Fills (now s) seat (length (now docs)) (length (now scores)) ⌝ }
-    ensures { λ r. ⌜ Holds (now (s .entry)) seat (now (docs .entry)) (now (scores .entry)) r (now (docs .exit)) (now (scores .exit)) ⌝ }
+    ensures { λ r. ⌜ Held (now (s .entry)) seat (now (docs .entry)) (now (scores .entry)) r (now (docs .exit)) (now (scores .exit)) ⌝ }
 {
     match seat {
         Seat::Taken(p) => list::read::fill(s, p, docs, scores),

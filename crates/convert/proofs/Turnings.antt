@@ -29,8 +29,7 @@ use Rattle.shelf.proofs.Walks.{strip-is}
 use Rattle.shelf.proofs.Readings.{start-rests, start-left}
 use Rattle.list.specs.Write.{bodiesBytes}
 use Rattle.list.proofs.Pours.{right-more}
-use Rattle.change.specs.Runs.{Runs}
-use Rattle.change.proofs.Runnings.{runs-front}
+use Rattle.change.proofs.Runnings.{Runs, runs-front}
 use Rattle.convert.specs.Convert.{chunksOf, turnedBodies, Fit, Turns, Turnable}
 
 -- ---- one body

@@ -28,16 +28,16 @@ use Rattle.list.proofs.Pours.{right-count}
 use Rattle.list.proofs.Shelves.{sound-words}
 use Rattle.change.specs.Edits.{Withdraw, clearPost, every}
 use Rattle.change.specs.Bytes.{Piece, pieceOf, pieces, joined, holds, clearPieces, changed, some, there, few, settled}
-use Rattle.change.specs.Runs.{Runs, Clears}
+use Rattle.change.specs.Runs.{Clears}
 use Rattle.change.specs.Seat.{packedBytes, fitting, May, Wide}
 use Rattle.edit.specs.Left.{postsAt, layoutAt, Sought, Sized, leftBytes, LeftOf, Measures}
 use Rattle.edit.specs.declared.withdraw.Left.{Left}
 use Rattle.change.proofs.Postings.{may-fit, clear-fit, clear-length}
-use Rattle.change.proofs.Runnings.{postings-own}
+use Rattle.change.proofs.Runnings.{Runs, postings-own, clears-runs}
 use Rattle.change.proofs.Pieces.{not-stopped, lists-nil, lists-inv, checked-sound, sound-lists, sound-rises}
 use Rattle.edit.proofs.Changes.{rises-few}
 use Rattle.edit.proofs.Splices.{settled-none, settled-as, joined-unless, few-unless, length-unless, pieces-length, few-front}
-use Rattle.change.proofs.News.{held-taken, new-small}
+use Rattle.change.proofs.News.{held-taken, held-runs, new-small}
 use Rattle.edit.proofs.Sittings.{firsts, runs-postings, runs-may}
 
 -- ---- one list
@@ -47,11 +47,11 @@ left-sought z = record { ready = z .fills .ready; right = z .fills .right; rise 
 
 module _ {s : List ℕ} {p : Place} {n : ℕ} {ds ss d1 s1 : List ℕ} (z : Sized s p ds ss) (f : Filled s p ds ss d1 s1 n) where
   pub left-held : Runs d1 s1 n (postsAt s p)
-  left-held = held-taken s p ds ss d1 s1 n (z .fills) f .held
+  left-held = held-runs (held-taken s p ds ss d1 s1 n (z .fills) f)
 
   module _ {d m : ℕ} {d2 s2 : List ℕ} (c : Clears d n d1 s1 m d2 s2) where
     pub left-runs : Runs d2 s2 m (clearPost d (postsAt s p))
-    left-runs = c .cleared (postsAt s p) left-held
+    left-runs = clears-runs left-held c
 
     pub left-may : May (firsts m d2) (firsts m s2)
     left-may =

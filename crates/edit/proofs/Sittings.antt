@@ -21,12 +21,13 @@ use Rattle.list.specs.declared.answer.Answer.{Answer}
 use Rattle.list.proofs.Pours.{right-count}
 use Rattle.change.specs.Edits.{Set, Clear, setPost, clearPost}
 use Rattle.change.specs.Bytes.{pieces, inRange, settled}
-use Rattle.change.specs.Runs.{Runs, Clears, Inserts}
-use Rattle.change.specs.Seat.{seatOf, heldBy, Fills, Holds, seatAt, seatNext, placed, Stood, Placeable, May, Wide}
+use Rattle.change.specs.Runs.{Clears, Insertable, Inserts}
+use Rattle.change.specs.Seat.{Sounds, seatOf, heldBy, Fills, Held, seatAt, seatNext, placed, Stood, Placeable, May, Wide}
 use Rattle.change.specs.declared.seat.Seat.{Seat}
 use Rattle.change.specs.declared.seat.Seat.the-variants.{Taken, Free}
 use Rattle.change.proofs.Postings.{Fit, may-fit, one-fit, set-fit, clear-fit, clear-absent, clear-length, clear-same, clear-fewer, clear-rise}
-use Rattle.change.proofs.Runnings.{runs-front, runs-length, rising-free, set-first}
+use Rattle.change.proofs.Runnings.{Runs, runs-front, runs-length, holds-length, clears-runs, runs-insertable, inserts-runs, rising-free, set-first}
+use Rattle.change.proofs.News.{held-runs}
 use Rattle.change.proofs.Pieces.{checked-sound}
 use Rattle.edit.proofs.Changes.{set-ranged}
 use Rattle.edit.proofs.Splices.{seat-taken, seat-free, settled-set, settled-clear}
@@ -53,6 +54,7 @@ set-cleared n d w (p ∷ ps) r =
 
 -- the postings of a seat's list: none, or such as may be written
 pub record Sits (s : List ℕ) (seat : Seat) : Type 0 where
+  pub sound : Sounds s
   pub rise : Rising 0 (heldBy s seat)
   pub few : length (heldBy s seat) ≤ maxPostings
   pub fit : 0 < length (heldBy s seat) → Fit (heldBy s seat)
@@ -73,6 +75,7 @@ sits s ls b e t (Taken p) q =
     let k = seat-taken s ls b e t p (sym q) in
     let n = right-count (blocksAt s (p .at) (p .count)) (k .right) in
     record {
+      sound = rw e;
       rise = k .may .rise;
       few = k .may .few;
       fit = λ h. may-fit (postsOf (blocksAt s (p .at) (p .count))) (k .may);
@@ -85,6 +88,7 @@ sits s ls b e t (Taken p) q =
 sits s ls b e t (Free a) q =
     let k = seat-free s ls b e t a (sym q) in
     record {
+      sound = rw e;
       rise = tt;
       few = omega arith;
       fit = λ (h : 0 < 0). absurd (omega arith);
@@ -120,6 +124,7 @@ runs-placeable s seat ds ss k ps z r f =
     let lw : length (firsts k ss) ≡ k = ap length (firsts-take k ss) ∙ length-take-le k ss (r .wide) in
     let n = runs-length ds ss k ps r in
     record {
+      sound = z .sound;
       stood = z .stood;
       short = z .short;
       order = z .order;
@@ -161,22 +166,27 @@ module _ (s : List ℕ) (seat : Seat) (z : Sits s seat) (d : ℕ) where
 -- ---- the code's runs, call by call
 
 -- a held list leaves room to take a docid out of it
-pub without-room : {s : List ℕ} {seat : Seat} {n : ℕ} {ds ss d1 s1 : List ℕ} → Holds s seat ds ss n d1 s1 → (n ≤ length d1) × (n ≤ length s1)
-without-room h = (h .held .roomy, h .held .wide)
+pub without-room : {s : List ℕ} {seat : Seat} {n : ℕ} {ds ss d1 s1 : List ℕ} → Held s seat ds ss n d1 s1 → (n ≤ length d1) × (n ≤ length s1)
+without-room h = let r = held-runs h in (r .roomy, r .wide)
+
+pub clear-chain : {s : List ℕ} {seat : Seat} {d n m : ℕ} {ds ss d1 s1 d2 s2 : List ℕ} → Held s seat ds ss n d1 s1 → Clears d n d1 s1 m d2 s2 → Runs d2 s2 m (clearPost d (heldBy s seat))
+clear-chain h c = clears-runs (held-runs h) c
 
 -- and then to put it in again
-pub insert-room : {s : List ℕ} {seat : Seat} {d n m : ℕ} {ds ss d1 s1 d2 s2 : List ℕ} → Sits s seat → Wide ds ss → Holds s seat ds ss n d1 s1 → Clears d n d1 s1 m d2 s2 → (m < length d2) × (m < length s2)
-insert-room {s} {seat} {d} {n} {m} {ds} {ss} {d1} {s1} {d2} {s2} z w h c =
-    let few = cleared-few s seat z d d2 s2 m (c .cleared (heldBy s seat) (h .held)) in
-    (omega (arith, w .docids, h .alike .docids, c .alike .docids), omega (arith, w .scored, h .alike .scored, c .alike .scored))
+pub set-insertable : {s : List ℕ} {seat : Seat} {d n m : ℕ} {ds ss d1 s1 d2 s2 : List ℕ} → Sits s seat → Wide ds ss → Held s seat ds ss n d1 s1 → Clears d n d1 s1 m d2 s2 → Insertable d m d2 s2
+set-insertable {s} {seat} {d} {n} {m} {ds} {ss} {d1} {s1} {d2} {s2} z w h c =
+    let r = clear-chain h c in
+    let held : n ≤ maxPostings = omega (arith, z .few, runs-length d1 s1 n (heldBy s seat) (held-runs h)) in
+    let few = cleared-few s seat z d d2 s2 m r in
+    let ld : length d1 ≡ length ds = holds-length (h .docids) (omega (arith, w .docids)) in
+    let lw : length s1 ≡ length ss = holds-length (h .scored) (omega (arith, w .scored)) in
+    runs-insertable r
+    (omega (arith, w .docids, ld, holds-length (c .docids) (omega (arith, w .docids))))
+    (omega (arith, w .scored, lw, holds-length (c .scored) (omega (arith, w .scored))))
+    (rise-cleared s seat z d) (free-cleared s seat z d)
 
-pub set-chain : {s : List ℕ} {seat : Seat} {d w n m k : ℕ} {ds ss d1 s1 d2 s2 d3 s3 : List ℕ} → Sits s seat → Holds s seat ds ss n d1 s1 → Clears d n d1 s1 m d2 s2 → Inserts d w m d2 s2 k d3 s3 → Runs d3 s3 k (setPost d w (heldBy s seat))
-set-chain {s} {seat} {d} {w} {n} {m} {k} {ds} {ss} {d1} {s1} {d2} {s2} {d3} {s3} z h c i =
-    set-runs s seat z d w d3 s3 k
-    (i .inserted (clearPost d (heldBy s seat)) (rise-cleared s seat z d) (free-cleared s seat z d) (c .cleared (heldBy s seat) (h .held)))
-
-pub clear-chain : {s : List ℕ} {seat : Seat} {d n m : ℕ} {ds ss d1 s1 d2 s2 : List ℕ} → Holds s seat ds ss n d1 s1 → Clears d n d1 s1 m d2 s2 → Runs d2 s2 m (clearPost d (heldBy s seat))
-clear-chain {s} {seat} h c = c .cleared (heldBy s seat) (h .held)
+pub set-chain : {s : List ℕ} {seat : Seat} {d w n m k : ℕ} {ds ss d1 s1 d2 s2 d3 s3 : List ℕ} → Sits s seat → Held s seat ds ss n d1 s1 → Clears d n d1 s1 m d2 s2 → Inserts d w m d2 s2 k d3 s3 → Runs d3 s3 k (setPost d w (heldBy s seat))
+set-chain {s} {seat} {d} {w} {n} {m} {k} {ds} {ss} {d1} {s1} {d2} {s2} {d3} {s3} z h c i = set-runs s seat z d w d3 s3 k (inserts-runs (clear-chain h c) i)
 
 -- ---- from what was placed to the edit
 

@@ -22,6 +22,11 @@ abbrev pub shownOf : Outcome Listing → Shown
 shownOf (done l) = shown.List (l .place)
 shownOf (refused n o) = shown.Refused n o
 
+-- what the answer is in the paper: the list's place, or the refusal's number and offset
+abbrev pub paperShown : Shown → Outcome Place
+paperShown (shown.List p) = done p
+paperShown (shown.Refused n o) = refused n o
+
 -- what is known after one list more: the first of the term stays
 abbrev pub hereOr : Shown → ℕ → Place → Shown
 hereOr (shown.List q) t p = shown.List q

@@ -10,6 +10,7 @@ use Rattle.wire.specs.Field.{whole, fieldLen}
 use Rattle.block.specs.Summary.{sumOf}
 use Rattle.block.specs.Body.{isStrip, tagOf}
 use Rattle.shelf.specs.Walk.{Block, bodies}
+use Rattle.block.specs.declared.summary.Summary.{Summary}
 use Rattle.shelf.specs.declared.walk.Place.{Place}
 use Rattle.lookup.specs.declared.find.Shown.{Shown}
 use Rattle.lookup.specs.declared.find.Shown.the-variants as shown
@@ -44,6 +45,23 @@ unfoldable pub bodyShown : List ℕ → Shown → ℕ → BodyShown
 bodyShown s (shown.Refused n o) j = NoBody n o
 bodyShown s (shown.List p) j = cond (hasBlock s p j) (partPast s (bodies j (bodiesFrom p) (drop (bodiesFrom p) s))) (NoBody 12 0)
 
+-- ---- what the answers are in the paper
+
+-- the summary's numbers, or the refusal's number and offset
+abbrev pub paperSummary : SummaryShown → Outcome Summary
+paperSummary (Numbers m) = done m
+paperSummary (NoSummary n o) = refused n o
+
+-- a part of the shelf: where it starts, and the place past it
+pub record Span : Type 0 where
+  pub start : ℕ
+  pub end : ℕ
+
+-- where the body's value starts and ends, or the refusal's number and offset
+abbrev pub paperBody : BodyShown → Outcome Span
+paperBody (Part start end) = done (record { start = start; end = end })
+paperBody (NoBody n o) = refused n o
+
 -- ---- the same in terms of a list's blocks
 
 abbrev pub blockOf : List Block → ℕ → Outcome Block
@@ -58,3 +76,7 @@ summaryOfBlock (refused n o) = NoSummary n o
 abbrev pub partOfBlock : Outcome Block → BodyShown
 partOfBlock (done b) = Part (b .bodyAt + 3) (b .bodyAt + 3 + length (b .body))
 partOfBlock (refused n o) = NoBody n o
+
+-- where a block's body stands in the shelf, past its tag and length
+abbrev pub spanOf : Block → Span
+spanOf b = record { start = b .bodyAt + 3; end = b .bodyAt + 3 + length (b .body) }

@@ -16,8 +16,8 @@ use Rattle.model.specs.Runs.{All}
 use Rattle.model.proofs.Lists.{split, both-ways}
 use Rattle.shelf.specs.Walk.{Block, Listing, postsOf, walk}
 use Rattle.shelf.specs.Check.{badBody, badLists, verdict, checked, judged}
-use Rattle.lookup.specs.Find.{findOf, found, shownOf}
-use Rattle.lookup.specs.Show.{blockOf, summaryShown, bodyShown, summaryOfBlock, partOfBlock}
+use Rattle.lookup.specs.Find.{findOf, found, shownOf, paperShown}
+use Rattle.lookup.specs.Show.{blockOf, summaryShown, bodyShown, paperSummary, paperBody, spanOf, summaryOfBlock, partOfBlock}
 use Rattle.lookup.proofs.Shows.{summary-refused, body-refused}
 use Rattle.lookup.proofs.Showings.{shown-summary, shown-body}
 use Rattle.lookup.specs.Gather.{termList, termBlocks}
@@ -150,9 +150,18 @@ find-there t (l ∷ ls) e = split (eqb (l .place .term) t) (λ f. rw f) (λ f. r
 find-row : {A : Type 0} (t : ℕ) (ls : List Listing) (f : Listing → Outcome A) → judged (andThen (findOf t ls) f) ≡ andThen (row (not (listed t ls)) 12 0) (λ ok. judged (f (termList t ls)))
 find-row t ls f = split (listed t ls) (λ e. rw (e, find-there t ls e)) (λ e. rw (e, find-not t ls e))
 
-pub show-refuses : (t : ℕ) (s : List ℕ) → judged (found t s) ≡ firstFault (showFaults t s)
+-- what is taken of an answer is refused as the answer is
+judged-of : {A B : Type 0} (o : Outcome A) (f : A → B) → judged (andThen o (λ x. done (f x))) ≡ judged o
+judged-of (refused n at) f = refl
+judged-of (done x) f = refl
+
+shown-place : (o : Outcome Listing) → paperShown (shownOf o) ≡ andThen o (λ l. done (l .place))
+shown-place (refused n at) = refl
+shown-place (done l) = refl
+
+found-refuses : (t : ℕ) (s : List ℕ) → judged (found t s) ≡ firstFault (showFaults t s)
 unfolding found
-show-refuses t s = go (walk s)
+found-refuses t s = go (walk s)
   where
     find-only : (o : Outcome Listing) → judged o ≡ judged (andThen o (λ l. done l))
     find-only (refused n at) = refl
@@ -161,6 +170,9 @@ show-refuses t s = go (walk s)
     go : (o : Outcome (List Listing)) → judged (andThen o (λ ls. findOf t ls)) ≡ firstFault (judged o ∷ row (not (listed t (listsOf o))) 12 0 ∷ [])
     go (refused n at) = refl
     go (done ls) = find-only (findOf t ls) ∙ find-row t ls (λ l. done l)
+
+pub show-refuses : (t : ℕ) (s : List ℕ) → judged (paperShown (shownOf (found t s))) ≡ firstFault (showFaults t s)
+show-refuses t s = ap judged (shown-place (found t s)) ∙ judged-of (found t s) (λ (l : Listing). l .place) ∙ found-refuses t s
 
 block-there : (bs : List Block) (j : ℕ) → j < length bs → (b : Block) × (blockOf bs j ≡ done b)
 block-there [] j l = absurd (omega arith)
@@ -176,23 +188,42 @@ block-row : (bs : List Block) (j : ℕ) → judged (blockOf bs j) ≡ andThen (r
 block-row bs j = split (ltb j (length bs)) (λ e. rw (e, block-there bs j (ltb-true _ _ e) .1)) (λ e. rw (e, block-not bs j (ltb-false _ _ e)))
 
 module _ (t : ℕ) (s : List ℕ) (j : ℕ) where
-  pub block-refuses : judged (blockShown t s j) ≡ firstFault (blockFaults t s j)
+  block-row-first : judged (blockShown t s j) ≡ firstFault (blockFaults t s j)
   unfolding found
-  block-refuses = go (walk s)
+  block-row-first = go (walk s)
     where
       go : (o : Outcome (List Listing)) → judged (andThen (andThen o (λ ls. findOf t ls)) (λ l. blockOf (l .blocks) j))
           ≡ firstFault (judged o ∷ row (not (listed t (listsOf o))) 12 0 ∷ row (not (ltb j (length (termBlocks t (listsOf o))))) 12 0 ∷ [])
       go (refused n at) = refl
       go (done ls) = find-row t ls (λ l. blockOf (l .blocks) j) ∙ after (row (not (listed t ls)) 12 0) (block-row (termBlocks t ls) j)
 
-  -- what is shown of a block is of the block that the list has
-  pub shows-the-block : (summaryShown s (shownOf (found t s)) j ≡ summaryOfBlock (blockShown t s j)) × (bodyShown s (shownOf (found t s)) j ≡ partOfBlock (blockShown t s j))
-  shows-the-block = go (found t s) refl
+  of-the-block : (summaryShown s (shownOf (found t s)) j ≡ summaryOfBlock (blockShown t s j)) × (bodyShown s (shownOf (found t s)) j ≡ partOfBlock (blockShown t s j))
+  of-the-block = go (found t s) refl
     where
       go : (o : Outcome Listing) → found t s ≡ o
           → (summaryShown s (shownOf o) j ≡ summaryOfBlock (andThen o (λ l. blockOf (l .blocks) j))) × (bodyShown s (shownOf o) j ≡ partOfBlock (andThen o (λ l. blockOf (l .blocks) j)))
       go (refused n at) e = (summary-refused s n at j, body-refused s n at j)
       go (done l) e = (rw e at (shown-summary t s l e j), rw e at (shown-body t s l e j))
+
+  -- what is shown of a block is of the block that the list has
+  pub shows-the-block : (paperShown (shownOf (found t s)) ≡ andThen (found t s) (λ l. done (l .place)))
+      × (paperSummary (summaryShown s (shownOf (found t s)) j) ≡ andThen (blockShown t s j) (λ b. done (b .sum)))
+      × (paperBody (bodyShown s (shownOf (found t s)) j) ≡ andThen (blockShown t s j) (λ b. done (spanOf b)))
+  shows-the-block = (shown-place (found t s), ap paperSummary (of-the-block .0) ∙ numbers (blockShown t s j), ap paperBody (of-the-block .1) ∙ part (blockShown t s j))
+    where
+      numbers : (o : Outcome Block) → paperSummary (summaryOfBlock o) ≡ andThen o (λ b. done (b .sum))
+      numbers (refused n at) = refl
+      numbers (done b) = refl
+
+      part : (o : Outcome Block) → paperBody (partOfBlock o) ≡ andThen o (λ b. done (spanOf b))
+      part (refused n at) = refl
+      part (done b) = refl
+
+  pub block-refuses : (judged (paperSummary (summaryShown s (shownOf (found t s)) j)) ≡ firstFault (blockFaults t s j)) × (judged (paperBody (bodyShown s (shownOf (found t s)) j)) ≡ firstFault (blockFaults t s j))
+  block-refuses = (
+    ap judged (shows-the-block .1) ∙ judged-of (blockShown t s j) (λ (b : Block). b .sum) ∙ block-row-first,
+    ap judged (shows-the-block .2) ∙ judged-of (blockShown t s j) spanOf ∙ block-row-first,
+  )
 
 room-row : (d w : ℕ) (ps : List Post) → judged (inRoom d w ps) ≡ andThen (row (not (leb (length ps) (min d w))) 9 0) (λ ok. done tt)
 room-row d w ps = unless-row (leb (length ps) (min d w)) 9 0 (done ps)

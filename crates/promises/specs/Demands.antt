@@ -6,13 +6,13 @@ use mathlib.Core.Bool.{Bool, true}
 use mathlib.Core.Logic.{_↔_}
 use mathlib.Core.List.{List, [], map}
 use lib.ListN.{length}
-use Rattle.model.specs.Outcome.{refused, done}
+use Rattle.model.specs.Outcome.{refused, done, andThen}
 use Rattle.model.specs.Post.{Post, docs, scores, postings}
 use Rattle.model.specs.Runs.{All, has, Bytes}
 use Rattle.shelf.specs.Walk.{Listing, stripOf, walk}
 use Rattle.shelf.specs.Check.{checked, judged}
-use Rattle.lookup.specs.Find.{findOf, found, shownOf}
-use Rattle.lookup.specs.Show.{summaryShown, bodyShown, summaryOfBlock, partOfBlock}
+use Rattle.lookup.specs.Find.{findOf, found, shownOf, paperShown}
+use Rattle.lookup.specs.Show.{summaryShown, bodyShown, paperSummary, paperBody, spanOf}
 use Rattle.list.specs.Answer.{after}
 use Rattle.list.specs.Read.{readList, docidsOf, scoresOf}
 use Rattle.list.specs.Write.{Full, writeList}
@@ -41,10 +41,14 @@ pub record Demand1 : Type 0 where
   -- "and refuses at the first fault in the stated order by its number,"
   pub query : (q : List ℕ) → judged (asked q) ≡ firstFault (queryFaults q)
   pub check : (s : List ℕ) → judged (checked s) ≡ firstFault (checkFaults s)
-  pub show : (t : ℕ) (s : List ℕ) → judged (found t s) ≡ firstFault (showFaults t s)
-  pub show-block : (t : ℕ) (s : List ℕ) (j : ℕ) → judged (blockShown t s j) ≡ firstFault (blockFaults t s j)
+  pub show : (t : ℕ) (s : List ℕ) → judged (paperShown (shownOf (found t s))) ≡ firstFault (showFaults t s)
+  pub show-block : (t : ℕ) (s : List ℕ) (j : ℕ)
+      → (judged (paperSummary (summaryShown s (shownOf (found t s)) j)) ≡ firstFault (blockFaults t s j)) × (judged (paperBody (bodyShown s (shownOf (found t s)) j)) ≡ firstFault (blockFaults t s j))
+  -- without a fault it is the list's place, the block's numbers, and where the block's body starts and ends
   pub shown : (t : ℕ) (s : List ℕ) (j : ℕ)
-      → (summaryShown s (shownOf (found t s)) j ≡ summaryOfBlock (blockShown t s j)) × (bodyShown s (shownOf (found t s)) j ≡ partOfBlock (blockShown t s j))
+      → (paperShown (shownOf (found t s)) ≡ andThen (found t s) (λ l. done (l .place)))
+      × (paperSummary (summaryShown s (shownOf (found t s)) j) ≡ andThen (blockShown t s j) (λ b. done (b .sum)))
+      × (paperBody (bodyShown s (shownOf (found t s)) j) ≡ andThen (blockShown t s j) (λ b. done (spanOf b)))
   pub read : (t : ℕ) (s : List ℕ) (d w : ℕ) → judged (readList t s d w) ≡ firstFault (readFaults t s d w)
   pub write : (strip : Bool) (t : ℕ) (ds ss : List ℕ) (room : ℕ) → judged (writeList strip t ds ss room) ≡ firstFault (writeFaults strip t ds ss room)
   pub edit : (e : Edit) (s : List ℕ) (room : ℕ) → judged (edited e s room) ≡ firstFault (editFaults e s room)

@@ -42,7 +42,7 @@ cast-if2 : tie.Need-cast-if2
 cast-if2 c = search needs
 
 lists-in-requires : tie.Need-lists-in-requires
-lists-in-requires c κs = search needs
+lists-in-requires c κs = c .before .before .before .before .before .before .before .before .before .pre .sound
 
 returns-2 : tie.Need-returns-2
 returns-2 c =

@@ -17,7 +17,7 @@ abbrev μ-loop : tie.MeasureT-loop
 loop-holds : tie.Need-loop-holds Inv-loop μ-loop
 loop-holds c =
     let b = c .before .before in
-    insert-start (b .args .d) (b .args .w) (b .args .n) (now (b .args .docs)) (now (b .args .scores)) (b .pre .0) (b .pre .1)
+    insert-start (b .args .d) (b .args .w) (b .args .n) (now (b .args .docs)) (now (b .args .scores)) (b .pre)
 
 mul-t11 : tie.Need-mul-t11 Inv-loop μ-loop
 mul-t11 c = omega arith
@@ -60,7 +60,7 @@ loop-again c =
     let b = c .before .before .before .before .before .before .before .before in
     let l = c .before .before .before .before .before .loop in
     let t = c .before .before .before .before .loop-test .taken in
-    insert-turn (b .args .d) (b .args .w) (b .args .n) (now (b .args .docs)) (now (b .args .scores)) (b .pre .0) (b .pre .1) (l .docs) (l .scores) (l .i) (l .carried) (l .inv)
+    insert-turn (b .args .d) (b .args .w) (b .args .n) (now (b .args .docs)) (now (b .args .scores)) (b .pre) (l .docs) (l .scores) (l .i) (l .carried) (l .inv)
     (getD (l .docs) (l .i) 0) (getD (l .scores) (l .i) 0) (c .before .lower .result) (c .upper .result) t refl refl (c .before .lower .ensures) (c .upper .ensures)
 
 mul-docs-2 : tie.Need-mul-docs-2 Inv-loop μ-loop
@@ -88,7 +88,7 @@ returns : tie.Need-returns Inv-loop μ-loop
 returns c =
     let b = c .before .before .before .before in
     let l = c .before .loop in
-    insert-done (b .args .d) (b .args .w) (b .args .n) (now (b .args .docs)) (now (b .args .scores)) (b .pre .0) (b .pre .1) (l .docs) (l .scores) (l .i) (l .carried) (l .inv) (c .loop-test .left)
+    insert-done (b .args .d) (b .args .w) (b .args .n) (now (b .args .docs)) (now (b .args .scores)) (b .pre) (l .docs) (l .scores) (l .i) (l .carried) (l .inv) (c .loop-test .left)
 
 pub insert-spec : {M : Type 1} → statement M
 insert-spec =

@@ -1,11 +1,9 @@
 -- `change::runs::without` meets its contract. The invariant: of the postings passed, those that stay are in front (`Runnings`). Assumes nothing.
 use denote.Ref.{now}
-use Prim.Native.Nat.{ℕ, _+_, _-_}
-use mathlib.Core.Path.{subst, sym}
+use Prim.Native.Nat.{_+_, _-_}
 use mathlib.Core.Logic.{⊎-elim}
-use lib.ListN.{getD, set}
 use native.Mathlib.Omega.{arith}
-use Rattle.change.proofs.Runnings.{Clearing, clear-start, clear-stays, clear-goes, clear-done}
+use Rattle.change.proofs.Runnings.{Clearing, clear-start, clear-stays, clear-goes, clear-as, clear-done}
 use Rattle.change.proofs.runs.without.Statement.{statement}
 use Rattle.change.proofs.runs.without.Tie as tie
 
@@ -58,9 +56,9 @@ loop-again c =
     let t = c .before .before .before .loop-test .taken in
     let a = b .args in
     ⊎-elim
-    (λ w. subst (λ (j : ℕ). Clearing (a .d) (a .n) (now (a .docs)) (now (a .scores)) (set (l .docs) (l .j) (getD (l .docs) (l .i) 0)) (set (l .scores) (l .j) (getD (l .scores) (l .i) 0)) (l .i + 1) j) (sym (w .1))
+    (λ w. clear-as (a .d) (a .n) (now (a .docs)) (now (a .scores)) (b .pre .0) (b .pre .1) (l .i + 1) (w .1) (w .2) (w .3)
     (clear-stays (a .d) (a .n) (now (a .docs)) (now (a .scores)) (b .pre .0) (b .pre .1) (l .docs) (l .scores) (l .i) (l .j) t (l .inv) (w .0 .taken)))
-    (λ w. subst (λ (j : ℕ). Clearing (a .d) (a .n) (now (a .docs)) (now (a .scores)) (set (l .docs) (l .j) (getD (l .docs) (l .i) 0)) (set (l .scores) (l .j) (getD (l .scores) (l .i) 0)) (l .i + 1) j) (sym (w .1))
+    (λ w. clear-as (a .d) (a .n) (now (a .docs)) (now (a .scores)) (b .pre .0) (b .pre .1) (l .i + 1) (w .1) (w .2) (w .3)
     (clear-goes (a .d) (a .n) (now (a .docs)) (now (a .scores)) (b .pre .0) (b .pre .1) (l .docs) (l .scores) (l .i) (l .j) t (l .inv) (w .0 .left)))
     (c .if1 .came)
 

@@ -15,7 +15,7 @@ use Rattle.convert.proofs.convert.convert_sound.Statement.{statement}
 use Rattle.convert.proofs.convert.convert_sound.Tie as tie
 
 find-seat-requires : tie.Need-find-seat-requires
-find-seat-requires c κs = search needs
+find-seat-requires c κs = c .before .before .pre
 
 enum-known-at : tie.Need-enum-known-at
 enum-known-at c = search needs

@@ -7,12 +7,13 @@ use Rattle.model.specs.Runs.{Bytes}
 use Rattle.shelf.specs.Check.{checked}
 use Rattle.list.proofs.Faults.{gives-refused}
 use Rattle.change.proofs.Pieces.{judged-lists}
+use Rattle.change.proofs.News.{held-runs}
 use Rattle.edit.proofs.Sittings.{Sits, sits, without-room, clear-chain, cleared-fit, runs-placeable, clear-refuses, clear-gives}
 use Rattle.edit.proofs.edit.clear_in.Statement.{statement}
 use Rattle.edit.proofs.edit.clear_in.Tie as tie
 
 find-seat-requires : tie.Need-find-seat-requires
-find-seat-requires c κs = search needs
+find-seat-requires c κs = c .before .before .before .before .pre .0
 
 bytes : (c : tie.After-find-seat) → Bytes (now (c .before .before .before .before .before .args .s))
 bytes c i = omega (arith, c .before .before .before .before .shared-slice-known .given i)
@@ -43,7 +44,7 @@ returns c =
     let f = c .before .before .before .before .before .before .before .before .before .before .before .before .before .before .before in
     let a = f .before .before .before .before .before .args in
     λ ls e. gives-refused (now (a .out))
-    (clear-refuses (now (a .s)) ls (bytes f) e (a .term) (a .docid) (f .find-seat .result) (f .find-seat .ensures ls e) (c .before .before .before .before .before .before .before .before .before .before .before .before .held .result) (c .before .before .before .before .before .without .result) _ _ _ _ (c .before .before .before .before .before .before .before .before .before .before .before .before .held .ensures .held) (clear-chain (c .before .before .before .before .before .before .before .before .before .before .before .before .held .ensures) (c .before .before .before .before .before .without .ensures)) (length (now (a .out))) (c .if1 .taken))
+    (clear-refuses (now (a .s)) ls (bytes f) e (a .term) (a .docid) (f .find-seat .result) (f .find-seat .ensures ls e) (c .before .before .before .before .before .before .before .before .before .before .before .before .held .result) (c .before .before .before .before .before .without .result) _ _ _ _ (held-runs (c .before .before .before .before .before .before .before .before .before .before .before .before .held .ensures)) (clear-chain (c .before .before .before .before .before .before .before .before .before .before .before .before .held .ensures) (c .before .before .before .before .before .without .ensures)) (length (now (a .out))) (c .if1 .taken))
 
 sub-place : tie.Need-sub-place
 sub-place c = search needs
@@ -83,7 +84,7 @@ returns-2 : tie.Need-returns-2
 returns-2 c =
     let f = c .before .before .before .before .before .before .before .before .before .before .before .before .before .before .before .before .before .before .before .before .before .before .before in
     let a = f .before .before .before .before .before .args in
-    λ ls e. clear-gives (now (a .s)) ls (bytes f) e (a .term) (a .docid) (f .find-seat .result) (f .find-seat .ensures ls e) (c .before .before .before .before .before .before .before .before .before .before .before .before .before .before .before .before .before .before .before .before .held .result) (c .before .before .before .before .before .before .before .before .before .before .before .before .before .without .result) _ _ _ _ (c .before .before .before .before .before .before .before .before .before .before .before .before .before .before .before .before .before .before .before .before .held .ensures .held) (clear-chain (c .before .before .before .before .before .before .before .before .before .before .before .before .before .before .before .before .before .before .before .before .held .ensures) (c .before .before .before .before .before .before .before .before .before .before .before .before .before .without .ensures))
+    λ ls e. clear-gives (now (a .s)) ls (bytes f) e (a .term) (a .docid) (f .find-seat .result) (f .find-seat .ensures ls e) (c .before .before .before .before .before .before .before .before .before .before .before .before .before .before .before .before .before .before .before .before .held .result) (c .before .before .before .before .before .before .before .before .before .before .before .before .before .without .result) _ _ _ _ (held-runs (c .before .before .before .before .before .before .before .before .before .before .before .before .before .before .before .before .before .before .before .before .held .ensures)) (clear-chain (c .before .before .before .before .before .before .before .before .before .before .before .before .before .before .before .before .before .before .before .before .held .ensures) (c .before .before .before .before .before .before .before .before .before .before .before .before .before .without .ensures))
     (length (now (a .out))) _ _ _ (c .before .before .before .before .before .before .before .before .if1 .left) (c .before .before .place .ensures ls e)
 
 pub clear-in-spec : {M : Type 1} → statement M

@@ -6,12 +6,12 @@ use lib.ListN.{length}
 use Rattle.model.specs.Runs.{Bytes}
 use Rattle.shelf.specs.Check.{checked}
 use Rattle.change.proofs.Pieces.{judged-lists}
-use Rattle.edit.proofs.Sittings.{Sits, sits, without-room, insert-room, set-chain, set-fits, runs-placeable, set-gives}
+use Rattle.edit.proofs.Sittings.{Sits, sits, without-room, set-insertable, set-chain, set-fits, runs-placeable, set-gives}
 use Rattle.edit.proofs.edit.set_in.Statement.{statement}
 use Rattle.edit.proofs.edit.set_in.Tie as tie
 
 find-seat-requires : tie.Need-find-seat-requires
-find-seat-requires c κs = search needs
+find-seat-requires c κs = c .before .before .before .before .pre .1
 
 bytes : (c : tie.After-find-seat) → Bytes (now (c .before .before .before .before .before .args .s))
 bytes c i = omega (arith, c .before .before .before .before .shared-slice-known .given i)
@@ -32,7 +32,7 @@ without-requires : tie.Need-without-requires
 without-requires c κs = without-room (c .before .before .before .before .before .before .held .ensures)
 
 insert-requires : tie.Need-insert-requires
-insert-requires c κs = insert-room (sat (c .before .before .before .before .before .before .before .before .before .before .before .before .before .before .before .before)) (c .before .before .before .before .before .before .before .before .before .before .before .before .before .before .before .before .before .before .before .before .before .pre .2) (c .before .before .before .before .before .before .before .before .before .before .before .before .before .held .ensures) (c .before .before .before .before .before .before .without .ensures)
+insert-requires c κs = set-insertable (sat (c .before .before .before .before .before .before .before .before .before .before .before .before .before .before .before .before)) (c .before .before .before .before .before .before .before .before .before .before .before .before .before .before .before .before .before .before .before .before .before .pre .2) (c .before .before .before .before .before .before .before .before .before .before .before .before .before .held .ensures) (c .before .before .before .before .before .before .without .ensures)
 
 sub-place : tie.Need-sub-place
 sub-place c = search needs
