@@ -8,7 +8,7 @@ use mathlib.Core.Bool.{true, false}
 use borrow.Author.Tests.{lt-ltb, eq-eqb, ne-eqb}
 use lib.Dec.{ltb, eqb}
 use lib.ListN.{length, getD, set, take, drop, length-set, length-append, length-drop, drop-of-length-le}
-use lib.Seq.{take-suc, drop-drop, getD-drop, getD-take, drop-cons, length-take-le}
+use lib.Seq.{take-suc, getD-drop, getD-take, drop-cons, length-take-le}
 use Rattle.model.specs.Post.{Post, post, postings, docs, scores, Rising}
 use Rattle.model.specs.Runs.{has, Holds}
 use Rattle.model.proofs.Lists.{split, both-ways, map-length, getD-map}
@@ -50,22 +50,22 @@ postings-append [] (b ∷ bs) cs es e = absurd (omega arith)
 postings-append (a ∷ xs) [] cs es e = absurd (omega arith)
 postings-append (a ∷ xs) (b ∷ bs) cs es e = ap {B = List Post} (λ t. post a b ∷ t) (postings-append xs bs cs es (omega arith))
 
-docs-own : (xs ys : List ℕ) → length xs ≡ length ys → docs (postings xs ys) ≡ xs
-docs-own [] ys e = refl
-docs-own (x ∷ xs) [] e = absurd (omega arith)
-docs-own (x ∷ xs) (y ∷ ys) e = ap {B = List ℕ} (λ t. x ∷ t) (docs-own xs ys (omega arith))
+pub docs-of : (xs ys : List ℕ) → length xs ≡ length ys → docs (postings xs ys) ≡ xs
+docs-of [] ys e = refl
+docs-of (x ∷ xs) [] e = absurd (omega arith)
+docs-of (x ∷ xs) (y ∷ ys) e = ap {B = List ℕ} (λ t. x ∷ t) (docs-of xs ys (omega arith))
 
-scores-own : (xs ys : List ℕ) → length xs ≡ length ys → scores (postings xs ys) ≡ ys
-scores-own [] [] e = refl
-scores-own [] (y ∷ ys) e = absurd (omega arith)
-scores-own (x ∷ xs) [] e = absurd (omega arith)
-scores-own (x ∷ xs) (y ∷ ys) e = ap {B = List ℕ} (λ t. y ∷ t) (scores-own xs ys (omega arith))
+pub scores-of : (xs ys : List ℕ) → length xs ≡ length ys → scores (postings xs ys) ≡ ys
+scores-of [] [] e = refl
+scores-of [] (y ∷ ys) e = absurd (omega arith)
+scores-of (x ∷ xs) [] e = absurd (omega arith)
+scores-of (x ∷ xs) (y ∷ ys) e = ap {B = List ℕ} (λ t. y ∷ t) (scores-of xs ys (omega arith))
 
 -- two runs and their first n postings
 front-runs : (ds ss : List ℕ) (n : ℕ) → n ≤ length ds → n ≤ length ss → Runs ds ss n (front n ds ss)
 front-runs ds ss n h k =
     let e : length (take n ds) ≡ length (take n ss) = omega (arith, length-take-le n ds h, length-take-le n ss k) in
-    record { roomy = h; wide = k; docids = sym (docs-own (take n ds) (take n ss) e); scored = sym (scores-own (take n ds) (take n ss) e) }
+    record { roomy = h; wide = k; docids = sym (docs-of (take n ds) (take n ss) e); scored = sym (scores-of (take n ds) (take n ss) e) }
 
 front-more′ : (i : ℕ) (ds ss : List ℕ) → i < length ds → i < length ss → front (i + 1) ds ss ≡ front i ds ss ++ (post (getD ds i 0) (getD ss i 0) ∷ [])
 front-more′ i ds ss h k =

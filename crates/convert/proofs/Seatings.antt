@@ -241,7 +241,7 @@ module _ (s : List ℕ) (ls : List Listing) (h : Bytes s) (e : checked s ≡ don
         w ∙ ap (λ (x : List ℕ). sets x (p .at + 8 + 12 * p .count) v) copied ∙ sets-left s (drop (length s) l) (p .at + 8 + 12 * p .count) v (seat .within)
         ∙ ap₂ (λ (x : List ℕ) (n : ℕ). x ++ drop n l) turns (sym size) in
         rw (turning-whole t s ls (length l) (seat .there) (omega arith))
-        (record { answers = ap Done (c .past ∙ omega (arith, ap length all)); holds = whole })
+        (record { answers = ap done (c .past ∙ omega (arith, ap length all)); holds = whole })
 
 -- ---- what the checker says comes first
 

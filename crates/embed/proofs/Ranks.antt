@@ -2,7 +2,7 @@
 use native.Mathlib.Omega.{arith}
 use Prim.Native.Nat.{ℕ, _≤_, min}
 use mathlib.Core.Path.{_≡_, refl, sym, ap, _∙_}
-use mathlib.Core.List.{List, [], _∷_}
+use mathlib.Core.List.{List}
 use lib.ListN.{length, take, length-take}
 use Rattle.model.specs.Limits.{maxK}
 use Rattle.model.specs.Outcome.{Outcome, refused, done}
@@ -10,6 +10,7 @@ use Rattle.model.specs.Runs.{Holds}
 use Rattle.model.specs.Post.{Post, docs, scores, postings}
 use Rattle.model.proofs.Lists.{map-take}
 use Rattle.model.proofs.Posts.{count-of}
+use Rattle.change.proofs.Runnings.{docs-of, scores-of}
 use Rattle.rank.specs.Rank.{Hit}
 use Rattle.rank.specs.Keep.{keptOf}
 use Rattle.rank.specs.declared.keep.Kept.{Kept}
@@ -46,17 +47,6 @@ search-fit q s rows fs cs ms fs′ cs′ ms′ ds ss r a b h m =
     kept-fit (r .verdict) (r .kept) (searched q s rows fs cs ms .outcome) rows ds ss a b (h .outcome) (searched-within q s rows fs cs ms) (h .few) (h .cleared) m
 
 -- ---- a keeper's rows
-
-docs-of : (ds ss : List ℕ) → length ds ≡ length ss → docs (postings ds ss) ≡ ds
-docs-of [] ss e = refl
-docs-of (d ∷ ds) [] e = absurd (omega arith)
-docs-of (d ∷ ds) (s ∷ ss) e = ap {B = List ℕ} (λ t. d ∷ t) (docs-of ds ss (omega arith))
-
-scores-of : (ds ss : List ℕ) → length ds ≡ length ss → scores (postings ds ss) ≡ ss
-scores-of [] [] e = refl
-scores-of [] (s ∷ ss) e = absurd (omega arith)
-scores-of (d ∷ ds) [] e = absurd (omega arith)
-scores-of (d ∷ ds) (s ∷ ss) e = ap {B = List ℕ} (λ t. s ∷ t) (scores-of ds ss (omega arith))
 
 pub both-columns : (n : ℕ) (ds ss old olds new news : List ℕ) (r t : ℕ) → length ds ≡ length ss
     → Holds old (take n ds) new r → Holds olds (take n ss) news t → Rows (take n (postings ds ss)) old olds new news t

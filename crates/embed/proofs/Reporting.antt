@@ -10,7 +10,7 @@ use Rattle.query.specs.Query.{Question}
 use Rattle.query.specs.Answers.{questionOf, paper as verdictOf}
 use Rattle.query.specs.declared.read.Verdict.{Verdict}
 use Rattle.query.specs.declared.read.Verdict.the-variants.{Good, Bad}
-use Rattle.list.specs.Answer.{answer, lengthOf, Gives, paper as written}
+use Rattle.list.specs.Answer.{Gives, paper as written}
 use Rattle.list.specs.declared.answer.Answer.{Answer}
 use Rattle.embed.specs.Report.{Reports, Fills, giving}
 
@@ -49,14 +49,10 @@ wrong o v n a p e = refusing _ n a (rw (asks o, sym p, e) refl)
 
 -- ---- a run that is filled
 
-told : (p : Outcome ℕ) → written (answer p) ≡ p
-told (done n) = refl
-told (refused n a) = refl
-
 pub fills : {o : Outcome (List ℕ)} {old new : List ℕ} {r : Answer} {number value : ℕ} →
     Gives o old new r → Reports (written r) number value → Fills o old new number value
 fills {o} {number} {value} g p =
     record {
-      reports = rw (told (lengthOf o)) at (rw (g .answers) at p);
+      reports = rw (g .answers) at p;
       holds = g .holds;
     }

@@ -11,7 +11,6 @@ use Rattle.model.specs.Outcome.{Outcome, refused, done}
 use Rattle.model.specs.Post.{postings}
 use Rattle.model.proofs.Lists.{split}
 use Rattle.model.proofs.Posts.{count-of}
-use Rattle.list.specs.Answer.{paper, answer}
 use Rattle.list.specs.Write.{listBytes, faultAt, writeList, Paired}
 use Rattle.list.proofs.Faults.{no-fault, may-write, write-done}
 
@@ -63,8 +62,3 @@ accepted-written strip t ds ss room p h =
     let n = count-of ds ss (p .same) in
     let f = no-fault 0 (postings ds ss) (record { rise = w .rise; scores = w .scores; last = w .last }) in
     write-done strip t ds ss room (omega (arith, p .same, w .few)) (p .same) (λ z. omega (arith, w .some)) (omega arith) h
-
--- the paper's value of an answer is the outcome that it answers
-pub paper-answer : (o : Outcome ℕ) → paper (answer o) ≡ o
-paper-answer (done n) = refl
-paper-answer (refused n o) = refl

@@ -140,4 +140,4 @@ pub gives-done : {o : Outcome (List ℕ)} {l m v : List ℕ} {r : ℕ} → o ≡
 gives-done {o} {l} {m} {v} {r} e h s =
     let w = stored-holds h s in
     let q : m ≡ v ++ drop (length v) l = w .whole ∙ ap (λ (k : ℕ). v ++ drop k l) (w .count) in
-    record { answers = rw e (ap Done (w .count)); holds = rw e q }
+    record { answers = rw e (ap done (w .count)); holds = rw e q }

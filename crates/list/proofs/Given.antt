@@ -35,7 +35,7 @@ reads-refused o n at ds ss e = rw e record {
 gives-stored : (v l m : List ℕ) (r : ℕ) → length v ≤ length l → Stored l m 0 r v → Gives (done v) l m (Done r)
 gives-stored v l m r h s =
     let g = stored-holds h s in
-    record { answers = ap Done (g .count); holds = g .whole ∙ ap (λ (k : ℕ). v ++ drop k l) (g .count) }
+    record { answers = ap done (g .count); holds = g .whole ∙ ap (λ (k : ℕ). v ++ drop k l) (g .count) }
 
 -- ---- a walked list's blocks
 

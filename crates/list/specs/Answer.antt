@@ -12,10 +12,6 @@ abbrev pub paper : Answer → Outcome ℕ
 paper (Done n) = done n
 paper (Refused n o) = refused n o
 
-abbrev pub answer : Outcome ℕ → Answer
-answer (done n) = Done n
-answer (refused n o) = Refused n o
-
 abbrev pub lengthOf : Outcome (List ℕ) → Outcome ℕ
 lengthOf (done v) = done (length v)
 lengthOf (refused n o) = refused n o
@@ -27,5 +23,5 @@ after (refused n o) l = l
 
 -- the contract of a writer: its answer, and the run that was lent to it
 pub record Gives (o : Outcome (List ℕ)) (old new : List ℕ) (r : Answer) : Type 0 where
-  pub answers : r ≡ answer (lengthOf o)
+  pub answers : paper r ≡ lengthOf o
   pub holds : new ≡ after o old
