@@ -68,6 +68,7 @@ module _ (s : List ℕ) (r : Reading) where
         refl,
         record {
           left = blocks-more (r .left) (r .sum) (r .body) s (omega arith) ∙ ap (λ (x : ℕ). b ∷ blocksOf (r .left - 1) (r .sum + 12) (drop (r .sum + 12) s) x (drop x s)) (sym (t .past));
+          onward = refl;
           fewer = omega arith;
           rests = record { room = omega (arith, h .room); strip = h .strip; end = h .end; bodied = t .rest };
           order = omega arith;

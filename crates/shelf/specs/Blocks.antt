@@ -29,6 +29,7 @@ pub record Rests (s : List ℕ) (r : Reading) : Type 0 where
 -- a block was found, whose body is the shelf's bytes from v to e, and next is past it
 pub record Finds (s : List ℕ) (r : Reading) (b : Block) (v e : ℕ) (next : Reading) : Type 0 where
   pub left : blocksLeft s r ≡ b ∷ blocksLeft s next
+  pub onward : next ≡ record { sum = r .sum + 12; body = e; left = r .left - 1 }
   pub fewer : next .left < r .left
   pub rests : Rests s next
   pub order : v ≤ e
