@@ -12,9 +12,9 @@ use Rattle.model.proofs.Lists.{map-take}
 use Rattle.model.proofs.Posts.{count-of}
 use Rattle.change.proofs.Runnings.{docs-of, scores-of}
 use Rattle.rank.specs.Rank.{Hit}
-use Rattle.rank.specs.Keep.{keptOf}
+use Rattle.rank.specs.Keep.{keptOf, noHits}
 use Rattle.rank.specs.declared.keep.Kept.{Kept}
-use Rattle.exhaustive.specs.Exhaustive.{rankAll, paperOf, paper, noHits, Answers as Ranks}
+use Rattle.exhaustive.specs.Exhaustive.{rankAll, paperOf, paper, Answers as Ranks}
 use Rattle.exhaustive.specs.declared.all.Verdict.{Verdict}
 use Rattle.exhaustive.specs.declared.all.Verdict.the-variants.{Done, Refused}
 use Rattle.exhaustive.specs.declared.all.Ranked.{Ranked}

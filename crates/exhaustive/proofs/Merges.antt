@@ -10,11 +10,12 @@ use Rattle.model.specs.Outcome.{done}
 use Rattle.model.specs.Runs.{Bytes}
 use Rattle.rank.specs.Rank.{Hit, keep, keeps, ranking, Ordered}
 use Rattle.rank.specs.Match.{Term, anyList, hitsOf}
-use Rattle.rank.specs.Keep.{keptOf}
+use Rattle.rank.specs.Keep.{keptOf, noHits, keeper}
 use Rattle.rank.specs.Run as run
 use Rattle.rank.specs.Run.{skipTerm, size, runHits}
 use Rattle.rank.specs.declared.keep.Kept.{Kept}
 use Rattle.rank.proofs.Ranks.{best-ranking}
+use Rattle.rank.proofs.Keepings.{kept-more}
 use Rattle.rank.proofs.Hits.{Rises}
 use Rattle.prune.specs.Search.{unless}
 use Rattle.scan.specs.Heads.{termOf, terms}
@@ -30,12 +31,13 @@ pub record Merging (s : List ℕ) (k : ℕ) (all : List Term) (bad : Option ℕ)
   pub lines : Lines s ds ss hs ls
   pub hits : keeps k (keptOf kept) (hitsOf anyList (wholes s (terms ds ss hs) ls)) ≡ keeps k [] (hitsOf anyList all)
   pub fault : faultLeft s ls ≡ bad
+  pub whole : kept ≡ keeper (keptOf kept)
   pub room : kept .n ≤ k
   pub order : Ordered (keptOf kept)
 
 pub merging-none : (s : List ℕ) (k : ℕ) (all : List Term) (bad : Option ℕ) (ds ss : List ℕ) (hs : List Head) (ls : List Left) (kept : Kept) → Lines s ds ss hs ls
-    → wholes s (terms ds ss hs) ls ≡ all → faultLeft s ls ≡ bad → kept .n ≡ 0 → Merging s k all bad ds ss hs ls kept
-merging-none s k all bad ds ss hs ls kept w e f z = record { lines = w; hits = rw (z, e); fault = f; room = omega arith; order = rw z tt }
+    → wholes s (terms ds ss hs) ls ≡ all → faultLeft s ls ≡ bad → kept ≡ noHits → Merging s k all bad ds ss hs ls kept
+merging-none s k all bad ds ss hs ls kept w e f z = record { lines = w; hits = rw (z, e); fault = f; whole = rw z; room = rw z (omega arith); order = rw z tt }
 
 -- what the buffers have rises
 buffers-rise : (s : List ℕ) (us : List Term) (ls : List Left) → length us ≤ length ls → Behinds s us ls → Rises 0 us
@@ -93,6 +95,7 @@ module _ (s : List ℕ) (k : ℕ) (all : List Term) (bad : Option ℕ) (ds ss : 
               lines = record { heads = long; lefts = f .lines .lefts; inside = g .inside; parts = g .parts; behind = rw left (behind-skip s (suc last) U ls′ (f .lines .behind)) };
               hits = ap (λ (x : List Hit). keeps k x B) (g .kept) ∙ sym (foldl-append (keep k) (keptOf kept) A B) ∙ ap (keeps k (keptOf kept)) (sym cut ∙ ap (hitsOf anyList) (f .same)) ∙ w .hits;
               fault = f .fault ∙ w .fault;
+              whole = kept-more noHits kept (r .kept) k A (w .room) (w .whole) (g .kept) (g .rows);
               room = g .room;
               order = g .order;
             }

@@ -4,15 +4,13 @@ use mathlib.Core.Path.{_≡_}
 use mathlib.Core.Bool.{cond}
 use mathlib.Core.List.{List}
 use lib.Dec.{leb}
-use lib.ListN.{replicate}
 use Rattle.model.specs.Limits.{maxK}
 use Rattle.model.specs.Outcome.{Outcome, refused, done, andThen}
 use Rattle.query.specs.Query.{asked}
 use Rattle.shelf.specs.Walk.{walk}
 use Rattle.rank.specs.Rank.{Hit}
 use Rattle.rank.specs.Match.{anyList}
-use Rattle.rank.specs.Keep.{keptOf}
-use Rattle.rank.specs.declared.keep.Kept.{Kept}
+use Rattle.rank.specs.Keep.{keptOf, noHits, keeper}
 use Rattle.prune.specs.Prune.{exhaustive}
 use Rattle.exhaustive.specs.Lists.{listingsOf}
 use Rattle.exhaustive.specs.declared.all.Verdict.{Verdict}
@@ -34,12 +32,10 @@ paperOf (Refused n o) hs = refused n o
 abbrev pub paper : Ranked → Outcome (List Hit)
 paper r = paperOf (r .verdict) (keptOf (r .kept))
 
--- the keeper that a refusal hands back
-abbrev pub noHits : Kept
-noHits = record { docids = replicate maxK 0; scores = replicate maxK 0; n = 0 }
-
 pub record Answers (o : Outcome (List Hit)) (r : Ranked) : Type 0 where
   pub answer : paper r ≡ o
   -- the keeper's count is the number of hits
   pub few : r .kept .n ≤ maxK
   pub cleared : (n at : ℕ) → r .verdict ≡ Refused n at → r .kept ≡ noHits
+  -- past the hits its rows are zeros
+  pub whole : r .kept ≡ keeper (keptOf (r .kept))

@@ -17,7 +17,7 @@ use Rattle.block.specs.declared.summary.Summary.{Summary}
 use Rattle.shelf.specs.Walk as shelf
 use Rattle.shelf.specs.Blocks.{blocksLeft, Rests}
 use Rattle.shelf.specs.declared.blocks.Reading.{Reading}
-use Rattle.rank.specs.Keep.{keptOf}
+use Rattle.rank.specs.Keep.{keptOf, keeper}
 use Rattle.rank.specs.Match.{Term, anyList}
 use Rattle.rank.specs.Run as run
 use Rattle.prune.specs.Cut.{Block, Listing}
@@ -190,6 +190,7 @@ pub record Merges (s ats counts weights : List ℕ) (k : ℕ) (r : Merged) : Typ
   pub wrong : r .right ≡ false → faultAll (listsFrom s weights ats counts) ≡ none → ⊥
   pub ranked : r .right ≡ true → exhaustive anyList k (listsFrom s weights ats counts) ≡ done (keptOf (r .kept))
   pub few : r .kept .n ≤ k
+  pub whole : r .kept ≡ keeper (keptOf (r .kept))
 
 -- ---- the first wrong body in byte order
 

@@ -13,6 +13,8 @@ use Rattle.model.specs.Limits.{maxDocid}
 use Rattle.model.specs.Runs.{All, Holds}
 use Rattle.model.proofs.Lists.{and-true, both-ways}
 use Rattle.model.proofs.Storing.{holds-take}
+use Rattle.rank.specs.Keep.{noHits}
+use Rattle.rank.specs.declared.keep.Kept.{Kept}
 use Rattle.prune.specs.Cut.{Block, Listing, Rises, ceilingAt, cuts, addCuts, starts}
 use Rattle.prune.specs.Gather.{Fine, flatEdges}
 use Rattle.prune.proofs.Cuts.{cuts-asc}
@@ -146,11 +148,11 @@ module _ (s ends los his tops counts bodies weights : List ℕ) (k : ℕ) (ok : 
               refused = λ x. both-ways (roomFor (length (starts maxDocid ls)) (length fs) (length cs) (length ms)) (rw count-is at e) x;
             }
 
-    pub blocks-short : (fs cs ms : List ℕ) (r : Run) → roomFor (m + 1) (length fs) (length cs) (length ms) ≡ false
-        → Books s ends los his tops counts bodies weights k fs cs ms fs cs ms (record { intervals = 0; run = r })
-    blocks-short fs cs ms r e = record {
+    pub blocks-short : (fs cs ms : List ℕ) (t : Kept) → t ≡ noHits → roomFor (m + 1) (length fs) (length cs) (length ms) ≡ false
+        → Books s ends los his tops counts bodies weights k fs cs ms fs cs ms (record { intervals = 0; run = record { kept = t; opened = 0; wrong = 0 } })
+    blocks-short fs cs ms t z e = record {
       filled = λ x. both-ways (roomFor (length (starts maxDocid ls)) (length fs) (length cs) (length ms)) x (rw count-is at e);
-      refused = λ x. record { intervals = refl; firsts = refl; ceilings = refl; marks = refl };
+      refused = λ x. record { intervals = refl; firsts = refl; ceilings = refl; marks = refl; run = rw z };
     }
 
 pub room-of : (n a b c : ℕ) → roomFor n a b c ≡ true → (n ≤ a) × (n ≤ b) × (n ≤ c)

@@ -17,8 +17,9 @@ use Rattle.model.specs.Outcome.{done}
 use Rattle.model.proofs.Lists.{split, All-map, All-append, or-true, and-true}
 use Rattle.rank.specs.Rank.{Hit, kth, keeps, Ordered}
 use Rattle.rank.specs.Match.{anyList, within}
-use Rattle.rank.specs.Keep.{keptOf}
+use Rattle.rank.specs.Keep.{keptOf, noHits, keeper}
 use Rattle.rank.specs.declared.keep.Kept.{Kept}
+use Rattle.rank.proofs.Keepings.{kept-more}
 use Rattle.prune.specs.Cut.{Block, Listing, meets, ceilingAt, Rises, starts}
 use Rattle.prune.specs.Search.{Span, opens}
 use Rattle.prune.specs.Prune.{never, spanOf, spans, faultAt, termsAt, book, chosen, metBy, countIn, countMet}
@@ -51,8 +52,8 @@ new-few was mets zero t = omega arith
 new-few was mets (suc n) t = omega (arith, is-few (getD was t 0) (getD mets t 0), new-few was mets n (suc t))
 
 -- an interval opens no more blocks than there are lists
-pub opens-few : (s los his tops counts bodies weights was mets ds ss : List ℕ) (first last k : ℕ) (kept : Kept) (r : Turn) → Opens s los his tops counts bodies weights was mets ds ss first last k kept r → r .fresh ≤ maxTerms
-opens-few s los his tops counts bodies weights was mets ds ss first last k kept r op = omega (arith, op .fresh, new-few was mets maxTerms 0)
+pub opens-few : (s los his tops counts bodies weights was mets : List ℕ) (heads : List Head) (ds ss ds′ ss′ : List ℕ) (first last k : ℕ) (kept : Kept) (r : Turn) → Opens s los his tops counts bodies weights was mets heads ds ss ds′ ss′ first last k kept r → r .fresh ≤ maxTerms
+opens-few s los his tops counts bodies weights was mets heads ds ss ds′ ss′ first last k kept r op = omega (arith, op .fresh, new-few was mets maxTerms 0)
 
 all-three : (ss : List Span) → map {B = ℕ} (λ t. 3) ss ≡ replicate (length ss) 3
 all-three [] = refl
@@ -79,7 +80,7 @@ pub skip-long : (ceilings mk row : List ℕ) (n x i r : ℕ) → Skips ceilings 
 skip-long ceilings mk row n x i r sk = ap length (sk .marked) ∙ length-sets mk i (replicate (r - i) 0)
 
 -- nothing is kept at first
-pub kth-none : (k : ℕ) (t : Kept) → t .n ≡ 0 → 0 ≡ kth k (keptOf t)
+pub kth-none : (k : ℕ) (t : Kept) → t ≡ noHits → 0 ≡ kth k (keptOf t)
 kth-none k t z = rw z
 
 -- the marks where the search stops
@@ -100,6 +101,7 @@ pub record Past (s ends los his tops counts bodies weights : List ℕ) (k : ℕ)
   pub same : length row ≡ length old
   pub past : drop (length firsts) row ≡ drop (length firsts) old
   pub within : i ≤ length firsts
+  pub whole : kept ≡ keeper (keptOf kept)
   pub room : kept .n ≤ k
   pub order : Ordered (keptOf kept)
   pub q : ℕ
@@ -152,7 +154,7 @@ module _ (s ends los his tops counts bodies weights : List ℕ) (k : ℕ) (first
   ceilings-long = ap length (ok .ceiled) ∙ length-map firsts (ceilingAt ls)
 
   -- ---- before the first
-  pub past-none : (kept : Kept) (heads : List Head) (ds ss ats mets : List ℕ) → kept .n ≡ 0 → length ds ≡ roomy → length ss ≡ roomy → Begins ends ats maxTerms → Idles weights heads maxTerms
+  pub past-none : (kept : Kept) (heads : List Head) (ds ss ats mets : List ℕ) → kept ≡ noHits → length ds ≡ roomy → length ss ≡ roomy → Begins ends ats maxTerms → Idles weights heads maxTerms
       → mets ≡ replicate maxTerms gap → Past s ends los his tops counts bodies weights k firsts marks₀ 0 kept 0 heads ds ss ats mets marks₀
   past-none kept heads ds ss ats mets z a b bg id m =
       let none-kept : keptOf kept ≡ [] = rw z in
@@ -163,7 +165,8 @@ module _ (s ends los his tops counts bodies weights : List ℕ) (k : ℕ) (first
         same = refl;
         past = refl;
         within = omega arith;
-        room = omega (arith, z);
+        whole = rw z;
+        room = rw z (omega arith);
         order = rw none-kept tt;
         q = 0;
         p = 0;
@@ -212,6 +215,7 @@ module _ (s ends los his tops counts bodies weights : List ℕ) (k : ℕ) (first
             same = ap length (sk .marked) ∙ length-sets row i (replicate m 0) ∙ w .same;
             past = ap {B = List ℕ} (λ z. drop (length firsts) z) (sk .marked) ∙ drop-marked (length firsts) (replicate m 0) row i (omega (arith, sk .upto)) ∙ w .past;
             within = sk .upto;
+            whole = w .whole;
             room = w .room;
             order = w .order;
             q = w .q;
@@ -241,6 +245,7 @@ module _ (s ends los his tops counts bodies weights : List ℕ) (k : ℕ) (first
       same = refl;
       past = refl;
       within = w .within;
+      whole = w .whole;
       room = w .room;
       order = w .order;
       q = w .q;
@@ -351,7 +356,7 @@ module _ (s ends los his tops counts bodies weights : List ℕ) (k : ℕ) (first
       terms-are = terms-met B ends weights most mets′ (getD firsts i 0) (length ends) 0 (omega arith) now-met′ ∙ ap (λ n. numbered (termMet B weights mets′) n 0) (ok .lists)
 
       module _ (o : opens k (keptOf kept) (getD (spans anyList never maxDocid ls) i (noSpan maxDocid ls)) ≡ true) (last : ℕ) (le : last ≡ lastAt maxDocid firsts i)
-          (ds′ ss′ : List ℕ) (r : Turn) (op : Opens s los his tops counts bodies weights mets mets′ ds′ ss′ (getD firsts i 0) last k kept r) where
+          (ds′ ss′ : List ℕ) (r : Turn) (op : Opens s los his tops counts bodies weights mets mets′ heads ds ss ds′ ss′ (getD firsts i 0) last k kept r) where
         opens-here : opens k (keptOf kept) (spanOf anyList never ls (intervalAt maxDocid firsts i)) ≡ true
         opens-here = sym (ap (opens k (keptOf kept)) (span-is i l)) ∙ o
 
@@ -374,6 +379,7 @@ module _ (s ends los his tops counts bodies weights : List ℕ) (k : ℕ) (first
               same = length-set row i 1 ∙ w .same;
               past = drop-set-lt (length firsts) row i 1 l ∙ w .past;
               within = omega arith;
+              whole = kept-more noHits kept (r .kept) k (spanOf anyList never ls (intervalAt maxDocid firsts i) .hits) (w .room) (w .whole) hits (op .rows none-wrong);
               room = op .room;
               order = op .order;
               q = getD firsts i 0;
@@ -398,10 +404,10 @@ module _ (s ends los his tops counts bodies weights : List ℕ) (k : ℕ) (first
             }
 
         -- it stops
-        pub past-stop : (mk row″ : List ℕ) (t : Kept) → r .wrong < length s → drop (length firsts) old ≡ drop (length firsts) mk
+        pub past-stop : (mk row″ : List ℕ) (t : Kept) → t ≡ noHits → r .wrong < length s → drop (length firsts) old ≡ drop (length firsts) mk
             → row″ ≡ sets (set row i 2) (i + 1) (replicate (length firsts - (i + 1)) 3)
             → Runs s ends los his tops counts bodies weights k firsts mk row″ (record { kept = t; opened = 0; wrong = r .wrong })
-        past-stop mk row″ t h d e =
+        past-stop mk row″ t z h d e =
             let found : faultAt ls (getD firsts i 0) ≡ some (r .wrong) = faults ∙ sym (op .wrong) ∙ rw (lt-ltb (r .wrong) (length s) h) in
             let st = searching-stop k (spans anyList never maxDocid ls) i (keptOf kept) row (noSpan maxDocid ls) (spanOf anyList never ls (intervalAt maxDocid firsts i)) (w .searching) (omega (arith, spans-are)) (omega (arith, w .wide, w .same)) (span-is i l) (r .wrong) opens-here found in
             let left : length firsts - (i + 1) ≡ length (drop (suc i) (spans anyList never maxDocid ls)) = omega (arith, length-drop (suc i) (spans anyList never maxDocid ls), spans-are) in
@@ -414,6 +420,9 @@ module _ (s ends los his tops counts bodies weights : List ℕ) (k : ℕ) (first
                   ∙ ap {B = List ℕ} (λ z. z ++ drop (length firsts) mk) (sym (st .1)));
               opened = λ x. absurd (omega arith);
               few = λ x. absurd (omega arith);
+              whole = λ x. absurd (omega arith);
+              stopped = λ x. (refl, z);
+              most = omega arith;
             }
 
     -- ---- past the last
@@ -428,4 +437,7 @@ module _ (s ends los his tops counts bodies weights : List ℕ) (k : ℕ) (first
           opened = λ x. w .count ∙ count-phantom B ends weights most rises (chosen (take i row) firsts) (length ends) 0 (omega arith)
               ∙ ap {B = ℕ} (λ z. countMet (chosen z firsts) ls) (sym (st .1)) ∙ ap {B = ℕ} (λ z. countMet (chosen (book anyList never maxDocid k ls) z) ls) (ok .first);
           few = λ x. w .room;
+          whole = λ x. w .whole;
+          stopped = λ x. absurd (omega arith);
+          most = omega arith;
         }

@@ -6,6 +6,7 @@ use mathlib.Core.List.{List, map, _++_}
 use lib.Dec.{leb}
 use lib.ListN.{length, getD, drop}
 use Rattle.model.specs.Limits.{maxDocid, maxTerms, maxK}
+use Rattle.rank.specs.Keep.{noHits}
 use Rattle.prune.specs.Cut.{ceilingAt, starts}
 use Rattle.opening.specs.Table.{gap, blockIn, listsIn, Ends}
 use Rattle.opening.specs.Enter.{Loadable}
@@ -36,12 +37,13 @@ pub record Fills (shelf ends los his tops counts bodies weights : List ℕ) (k :
   pub ceilings : cs′ ≡ map (ceilingAt (listsIn (blockIn shelf los his tops counts bodies) ends weights)) (starts maxDocid (listsIn (blockIn shelf los his tops counts bodies) ends weights)) ++ drop (r .intervals) cs
   pub run : Runs shelf ends los his tops counts bodies weights k (starts maxDocid (listsIn (blockIn shelf los his tops counts bodies) ends weights)) ms ms′ (r .run)
 
--- or, where there is no room, nothing is touched
+-- or, where there is no room, nothing is touched and nothing was searched
 pub record Untouched (fs cs ms fs′ cs′ ms′ : List ℕ) (r : Booked) : Type 0 where
   pub intervals : r .intervals ≡ 0
   pub firsts : fs′ ≡ fs
   pub ceilings : cs′ ≡ cs
   pub marks : ms′ ≡ ms
+  pub run : r .run ≡ record { kept = noHits; opened = 0; wrong = 0 }
 
 pub record Books (shelf ends los his tops counts bodies weights : List ℕ) (k : ℕ) (fs cs ms fs′ cs′ ms′ : List ℕ) (r : Booked) : Type 0 where
   pub filled : roomFor (length (starts maxDocid (listsIn (blockIn shelf los his tops counts bodies) ends weights))) (length fs) (length cs) (length ms) ≡ true

@@ -9,7 +9,7 @@ use Rattle.model.specs.Limits.{maxDocid, maxTerms, maxK}
 use Rattle.model.specs.Outcome.{Outcome, refused, done}
 use Rattle.rank.specs.Rank.{Hit}
 use Rattle.rank.specs.Match.{anyList}
-use Rattle.rank.specs.Keep.{keptOf}
+use Rattle.rank.specs.Keep.{keptOf, noHits, keeper}
 use Rattle.prune.specs.Cut.{ceilingAt}
 use Rattle.prune.specs.Cut as cut
 use Rattle.prune.specs.Prune.{never, pruned, book, blocksOpened}
@@ -48,6 +48,9 @@ pub record Runs (shelf ends los his tops counts bodies weights : List ℕ) (k : 
   pub marked : marks′ ≡ book anyList never maxDocid k (listsIn (blockIn shelf los his tops counts bodies) ends weights) ++ drop (length starts) marks
   pub opened : length shelf ≤ r .wrong → r .opened ≡ blocksOpened anyList never maxDocid k (listsIn (blockIn shelf los his tops counts bodies) ends weights)
   pub few : length shelf ≤ r .wrong → r .kept .n ≤ k
+  pub whole : length shelf ≤ r .wrong → r .kept ≡ keeper (keptOf (r .kept))
+  pub stopped : r .wrong < length shelf → (r .opened ≡ 0) × (r .kept ≡ noHits)
+  pub most : r .wrong ≤ length shelf
 
 -- the first n lists' places are before their first blocks
 pub record Begins (ends ats : List ℕ) (n : ℕ) : Type 0 where

@@ -13,10 +13,10 @@ use Rattle.model.specs.Post.{postings}
 use Rattle.model.proofs.Lists.{split}
 use Rattle.model.proofs.Posts.{count-of}
 use Rattle.rank.specs.Rank as rank
-use Rattle.rank.specs.Keep.{keptOf}
+use Rattle.rank.specs.Keep.{keptOf, noHits}
 use Rattle.rank.specs.declared.keep.Kept.{Kept}
 use Rattle.prune.proofs.Rooms.{Within}
-use Rattle.exhaustive.specs.Exhaustive.{paperOf, noHits}
+use Rattle.exhaustive.specs.Exhaustive.{paperOf}
 use Rattle.exhaustive.specs.declared.all.Verdict.{Verdict}
 use Rattle.exhaustive.specs.declared.all.Verdict.the-variants.{Done, Refused}
 use Rattle.lent.specs.Rows.{rowOf, withHits, numberOf, offsetOf, hitsOf, Rowed, hitAt, Counts, numberIn, offsetIn, Tells}

@@ -26,7 +26,7 @@ use Rattle.scan.specs.Load.{headOf}
 use Rattle.scan.specs.declared.head.Head.{Head}
 use Rattle.scan.proofs.Loadings.{Stood, Roomed, stood, other-term, other-inside, load-room}
 use Rattle.opening.specs.Table.{gap, sumIn, blockIn}
-use Rattle.opening.specs.Enter.{Loadable, bytesIn, newRun, Enters, bodyOf, isNew, Stands, AllStand, under, faultFrom, newFrom, EntersAll}
+use Rattle.opening.specs.Enter.{Loadable, bytesIn, newRun, Enters, bodyOf, isNew, Stands, AllStand, under, faultFrom, newFrom, EntersAll, Space, enteredFrom}
 use Rattle.opening.specs.declared.enter.Entry.{Entry}
 
 -- ---- a right body's docids rise
@@ -185,6 +185,8 @@ pub record Entering (n : ℕ) (s los his tops counts bodies weights was mets : L
       → Stands ds ss (getD weights u 0) (bodyOf (blockIn s los his tops counts bodies) (getD mets u 0)) d u (getD hs u blank)
   pub rest : (d : ℕ) → AllStand (blockIn s los his tops counts bodies) weights ds₀ ss₀ was d heads → (u : ℕ) → t ≤ u → u < n
       → Stands ds ss (getD weights u 0) (bodyOf (blockIn s los his tops counts bodies) (getD was u 0)) d u (getD hs u blank)
+  pub space : enteredFrom s los his tops counts bodies weights was mets (n - t) t (record { heads = hs; docids = ds; scored = ss })
+      ≡ enteredFrom s los his tops counts bodies weights was mets n 0 (record { heads = heads; docids = ds₀; scored = ss₀ })
   pub few : fresh ≤ t
   pub counted : newFrom was mets n 0 ≡ fresh + newFrom was mets (n - t) t
   pub first : faultFrom (blockIn s los his tops counts bodies) was n 0 ≡ none
@@ -206,10 +208,21 @@ module _ (s los his tops counts bodies weights was mets : List ℕ) (heads : Lis
     scored = d;
     entered = λ p st u l. absurd (omega arith);
     rest = λ p st u l k. st .each u k;
+    space = refl;
     few = omega arith;
     counted = omega arith;
     first = λ e. let z : ltb (length s) (length s) ≡ false = le-ltb (length s) (length s) (omega arith) in rw z;
   }
+
+  entered-none : (t : ℕ) (x : Space) → enteredFrom s los his tops counts bodies weights was mets 0 t x ≡ x
+  unfolding enteredFrom
+  entered-none t x = refl
+
+  entered-turn : (n t : ℕ) (hs : List Head) (ds ss ds′ ss′ : List ℕ) (r : Entry) → Enters s los his tops counts bodies (getD weights t 0) t (getD was t 0) (getD mets t 0) (getD hs t blank) ds ss ds′ ss′ r
+      → enteredFrom s los his tops counts bodies weights was mets (suc n) t (record { heads = hs; docids = ds; scored = ss })
+      ≡ enteredFrom s los his tops counts bodies weights was mets n (suc t) (record { heads = set hs t (r .head); docids = ds′; scored = ss′ })
+  unfolding enteredFrom
+  entered-turn n t hs ds ss ds′ ss′ r en = rw (en .answer, en .docids, en .scored)
 
   pub entering-more : (n : ℕ) (hs : List Head) (ds ss : List ℕ) (fresh wrong t : ℕ) (ds′ ss′ : List ℕ) (r : Entry) (more less : ℕ) → n ≤ maxTerms → t < n → Bytes s
       → ((getD mets t 0 ≡ gap → ⊥) → Loadable s los his tops counts bodies (getD mets t 0))
@@ -243,6 +256,11 @@ module _ (s los his tops counts bodies weights was mets : List ℕ) (heads : Lis
             let q : (u ≡ t → ⊥) = omega arith in
             rw (getD-set-other hs t u (r .head) blank q)
             (others-stand s los his tops counts bodies wt t was-t met-t ds ss b mine (w .docids) (w .scored) ok h ds′ ss′ r en u (getD weights u 0) p _ (getD hs u blank) q (w .rest p st u (omega arith) j));
+        space =
+            let one : enteredFrom s los his tops counts bodies weights was mets (n - t) t (record { heads = hs; docids = ds; scored = ss })
+            ≡ enteredFrom s los his tops counts bodies weights was mets (n - (t + 1)) (t + 1) (record { heads = set hs t (r .head); docids = ds′; scored = ss′ }) =
+            rw left (rw next at (entered-turn (n - (t + 1)) t hs ds ss ds′ ss′ r en)) in
+            sym one ∙ w .space;
         few = omega (arith, w .few);
         counted =
             let c : newFrom was mets (n - t) t ≡ isNew was-t met-t + newFrom was mets (n - (t + 1)) (t + 1) = rw (left, next) in
@@ -271,6 +289,7 @@ module _ (s los his tops counts bodies weights was mets : List ℕ) (heads : Lis
       let none-left : newFrom was mets (maxTerms - t) t ≡ 0 = rw z in
       let no-fault : faultFrom B mets (maxTerms - t) t ≡ none = rw z in
       record {
+        space = sym (entered-none t (record { heads = hs; docids = ds; scored = ss })) ∙ (rw z at (w .space));
         stand = λ d st. record { lists = w .long; docids = w .docids; scored = w .scored; each = λ u k. w .entered d st u (omega arith) };
         fresh = sym (w .counted ∙ omega arith);
         wrong = λ f. sym (w .first f ∙ ap (earlier (under (length s) wrong)) no-fault ∙ earlier-none (under (length s) wrong));

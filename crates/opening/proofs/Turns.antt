@@ -21,7 +21,7 @@ use Rattle.rank.specs.declared.keep.Kept.{Kept}
 use Rattle.rank.proofs.Hits.{run-within, skip-skip, skip-rises}
 use Rattle.prune.specs.Cut.{Block}
 use Rattle.prune.specs.Prune.{posted}
-use Rattle.scan.specs.Heads.{blank, InBuffers, OwnPart, OwnParts, headPosts, termOf, terms}
+use Rattle.scan.specs.Heads.{blank, InBuffers, OwnPart, OwnParts, headPosts, termOf, terms, skipHead}
 use Rattle.scan.specs.Run.{Bounds, Searched}
 use Rattle.scan.specs.declared.head.Head.{Head}
 use Rattle.scan.proofs.Heads.{All-at}
@@ -122,16 +122,22 @@ module _ (s los his tops counts bodies : List ℕ) (b : Bytes s) where
           order = op .order;
         }
 
-    pub open-stopped : wrong < length s → Opens s los his tops counts bodies weights was mets ds′ ss′ first last k kept (record { heads = hs; kept = kept; fresh = fresh; wrong = wrong })
+    pub open-stopped : wrong < length s → Opens s los his tops counts bodies weights was mets heads ds ss ds′ ss′ first last k kept (record { heads = hs; kept = kept; fresh = fresh; wrong = wrong })
     open-stopped l =
         let z : under (length s) wrong ≡ some wrong = rw (lt-ltb wrong (length s) l) in
         record {
           fresh = al .fresh;
           wrong = al .wrong (op .right);
           hits = λ e. absurd (some-none wrong (sym z ∙ e));
+          rows = λ e. absurd (some-none wrong (sym z ∙ e));
+          stopped = λ x. (refl, ap {B = List Head} (λ x. x .heads) (al .space));
+          most = omega arith;
           room = op .room;
           order = op .order;
           stand = λ e. absurd (some-none wrong (sym z ∙ e));
+          docids = ap {B = List ℕ} (λ x. x .docids) (al .space);
+          scored = ap {B = List ℕ} (λ x. x .scored) (al .space);
+          moved = λ e. absurd (some-none wrong (sym z ∙ e));
         }
       where
         some-none : (a : ℕ) → some a ≡ none → ⊥
@@ -175,7 +181,7 @@ module _ (s los his tops counts bodies : List ℕ) (b : Bytes s) where
             own = subst (λ x. OwnPart x (getD past i blank)) z own;
           }
 
-      pub open-done : length s ≤ wrong → Opens s los his tops counts bodies weights was mets ds′ ss′ first last k kept (record { heads = past; kept = best; fresh = fresh; wrong = length s })
+      pub open-done : length s ≤ wrong → Opens s los his tops counts bodies weights was mets heads ds ss ds′ ss′ first last k kept (record { heads = past; kept = best; fresh = fresh; wrong = length s })
       open-done l =
           let x : under (length s) wrong ≡ none = rw (le-ltb wrong (length s) l) in
           let y : under (length s) (length s) ≡ none = rw (le-ltb (length s) (length s) (omega arith)) in
@@ -184,7 +190,13 @@ module _ (s los his tops counts bodies : List ℕ) (b : Bytes s) where
             wrong = y ∙ sym x ∙ al .wrong (op .right);
             hits = λ e. sr .kept
                 ∙ ap (keeps k (keptOf kept)) (same-hits anyList first last (terms ds′ ss′ hs) (numbered (termMet (blockIn s los his tops counts bodies) weights mets) maxTerms 0) (omega (arith, op .below)) stand-alike (open-asks .rising) met-rises);
+            rows = λ e. sr .rows;
+            stopped = λ x. absurd (omega arith);
+            most = omega arith;
             room = sr .room;
             order = sr .order;
             stand = λ e. record { lists = more; docids = stood .docids; scored = stood .scored; each = past-stands };
+            docids = ap {B = List ℕ} (λ x. x .docids) (al .space);
+            scored = ap {B = List ℕ} (λ x. x .scored) (al .space);
+            moved = λ e. sr .moved ∙ ap {B = List Head} (λ x. map (skipHead ds′ ss′ (suc last)) (map (skipHead ds′ ss′ first) (x .heads))) (al .space);
           }

@@ -5,7 +5,7 @@ use mathlib.Core.Bool.{cond}
 use mathlib.Core.Option.{Option, none, some}
 use mathlib.Core.List.{List, []}
 use lib.Dec.{ltb, eqb}
-use lib.ListN.{length, getD, drop}
+use lib.ListN.{length, getD, set, drop}
 use lib.Seq.{sets}
 use Rattle.model.specs.Limits.{maxDocid, perBlock, maxTerms}
 use Rattle.model.specs.Post.{Post, docs, scores}
@@ -101,6 +101,26 @@ abbrev pub newFrom : (was mets : List ℕ) → (n t : ℕ) → ℕ
 newFrom was mets zero t = 0
 newFrom was mets (suc n) t = isNew (getD was t 0) (getD mets t 0) + newFrom was mets n (suc t)
 
+-- where the lists stand, and the two buffers that they read from
+pub record Space : Type 0 where
+  pub heads : List Head
+  pub docids : List ℕ
+  pub scored : List ℕ
+
+-- n lists entered one after another, from the t-th on
+unfoldable pub enteredFrom : (shelf los his tops counts bodies weights was mets : List ℕ) → (n t : ℕ) → Space → Space
+enteredFrom shelf los his tops counts bodies weights was mets zero t x = x
+enteredFrom shelf los his tops counts bodies weights was mets (suc n) t x = enteredFrom shelf los his tops counts bodies weights was mets n (suc t) (record {
+  heads = set (x .heads) t (entryOf shelf los his tops counts bodies (getD weights t 0) t (getD was t 0) (getD mets t 0) (getD (x .heads) t blank) .head);
+  docids = sets (x .docids) (partOf t) (docs (newRun shelf los his tops counts bodies (getD was t 0) (getD mets t 0)));
+  scored = sets (x .scored) (partOf t) (scores (newRun shelf los his tops counts bodies (getD was t 0) (getD mets t 0)));
+})
+
+-- all of them
+abbrev pub enteredAll : (shelf los his tops counts bodies weights was mets : List ℕ) (heads : List Head) (ds ss : List ℕ) → Space
+enteredAll shelf los his tops counts bodies weights was mets heads ds ss =
+    enteredFrom shelf los his tops counts bodies weights was mets maxTerms 0 (record { heads = heads; docids = ds; scored = ss })
+
 -- every block met may be loaded, and the buffers have their size
 pub record Enterable (shelf los his tops counts bodies weights was mets ds ss : List ℕ) : Type 0 where
   pub weighted : length weights ≡ maxTerms
@@ -111,6 +131,7 @@ pub record Enterable (shelf los his tops counts bodies weights was mets ds ss : 
   pub each : (t : ℕ) → t < maxTerms → (getD mets t 0 ≡ gap → ⊥) → Loadable shelf los his tops counts bodies (getD mets t 0)
 
 pub record EntersAll (shelf los his tops counts bodies weights was mets : List ℕ) (heads : List Head) (ds ss ds′ ss′ : List ℕ) (r : Entrance) : Type 0 where
+  pub space : record { heads = r .heads; docids = ds′; scored = ss′ } ≡ enteredAll shelf los his tops counts bodies weights was mets heads ds ss
   -- the lists that stood from a docid on stand there still, now in the blocks met
   pub stand : (d : ℕ) → AllStand (blockIn shelf los his tops counts bodies) weights ds ss was d heads
       → AllStand (blockIn shelf los his tops counts bodies) weights ds′ ss′ mets d (r .heads)

@@ -33,7 +33,7 @@ pub fn open(
     kept: Kept,
 ) -> Turn
     requires { ⌜ Enterable (now shelf) (now los) (now his) (now tops) (now counts) (now bodies) (now weights) (now was) (now mets) (now docs) (now scores) × Openable (now shelf) (now los) (now his) (now tops) (now counts) (now bodies) (now weights) (now was) heads (now docs) (now scores) first last k kept ⌝ }
-    ensures { λ r. ⌜ Opens (now (shelf .entry)) (now (los .entry)) (now (his .entry)) (now (tops .entry)) (now (counts .entry)) (now (bodies .entry)) (now (weights .entry)) (now (was .entry)) (now (mets .entry)) (now (docs .exit)) (now (scores .exit)) first last k kept r ⌝ }
+    ensures { λ r. ⌜ Opens (now (shelf .entry)) (now (los .entry)) (now (his .entry)) (now (tops .entry)) (now (counts .entry)) (now (bodies .entry)) (now (weights .entry)) (now (was .entry)) (now (mets .entry)) heads (now (docs .entry)) (now (scores .entry)) (now (docs .exit)) (now (scores .exit)) first last k kept r ⌝ }
 {
     let none = shelf.len();
     let e = crate::enter::enter_all(

@@ -12,11 +12,11 @@ use Rattle.model.proofs.Lists.{split}
 use Rattle.lookup.specs.declared.gather.Blocks.{Blocks}
 use Rattle.rank.specs.Rank.{Hit}
 use Rattle.rank.specs.Match.{anyList}
-use Rattle.rank.specs.Keep.{keptOf}
+use Rattle.rank.specs.Keep.{keptOf, noHits, keeper}
 use Rattle.prune.specs.Cut.{Listing, starts, ceilingAt, blockCount}
 use Rattle.prune.specs.Search.{Span, step, marksFrom}
 use Rattle.prune.specs.Prune.{never, spans, pruned, book, blocksOpened}
-use Rattle.exhaustive.specs.Exhaustive.{paperOf, noHits}
+use Rattle.exhaustive.specs.Exhaustive.{paperOf}
 use Rattle.exhaustive.specs.Merge.{listsFrom}
 use Rattle.exhaustive.specs.declared.all.Verdict.the-variants.{Done, Refused}
 use Rattle.opening.specs.Table.{blockIn, listsIn}
@@ -38,7 +38,7 @@ answers-as {a} {b} {fs} {cs} {ms} {r} e h = subst (λ (x : Answer). Answers x fs
 -- before the search nothing is touched
 pub refused-early : (n at : ℕ) (fs cs ms : List ℕ) (r : Pruned) → r ≡ refusal n at 0 → Answers (answer (refused n at) fs cs ms) fs cs ms r
 refused-early n at fs cs ms r e =
-    rw e (record { outcome = refl; few = omega arith; cleared = λ m o q. refl; intervals = refl; opened = refl; blocks = refl; firsts = refl; ceilings = refl; marks = refl })
+    rw e (record { outcome = refl; few = omega arith; cleared = λ m o q. refl; whole = refl; intervals = refl; opened = refl; blocks = refl; firsts = refl; ceilings = refl; marks = refl })
 
 -- a mark for each interval
 marks-long : (k : ℕ) (now : Outcome (List Hit)) (ss : List Span) → length (marksFrom k now ss) ≡ length ss
@@ -66,9 +66,9 @@ module _ (s ats sizes : List ℕ) (k : ℕ) (r : Blocks) (g : Tabled s ats sizes
     filled = split (roomFor (length (starts maxDocid ls)) (length fs) (length cs) (length ms)) (λ x. (x, h .filled x)) (λ x. absurd (some (h .refused x .intervals)))
 
     -- the book is filled, whatever the search found
-    booked : (p : Pruned) (o : Outcome (List Hit)) → pruned anyList never maxDocid k ls ≡ o → paperOf (p .verdict) (keptOf (p .kept)) ≡ o → p .kept .n ≤ maxK → ((n at : ℕ) → p .verdict ≡ Refused n at → p .kept ≡ noHits)
+    booked : (p : Pruned) (o : Outcome (List Hit)) → pruned anyList never maxDocid k ls ≡ o → paperOf (p .verdict) (keptOf (p .kept)) ≡ o → p .kept .n ≤ maxK → ((n at : ℕ) → p .verdict ≡ Refused n at → p .kept ≡ noHits) → p .kept ≡ keeper (keptOf (p .kept))
         → p .intervals ≡ b .intervals → p .opened ≡ unlessRefused o (blocksOpened anyList never maxDocid k ls) → p .blocks ≡ unlessRefused o (blockCount ls) → Answers (over k fs cs ms (listsFrom s ws ats sizes)) fs′ cs′ ms′ p
-    booked p o f q t c i n m =
+    booked p o f q t c v i n m =
         let u = filled .1 in
         let size = u .intervals in
         answers-as (ap (over k fs cs ms) (tabled-lists s ats sizes k r g ws w))
@@ -77,6 +77,7 @@ module _ (s ats sizes : List ℕ) (k : ℕ) (r : Blocks) (g : Tabled s ats sizes
           outcome = q ∙ sym f;
           few = t;
           cleared = c;
+          whole = v;
           intervals = i ∙ size;
           opened = n ∙ ap {B = ℕ} (λ x. unlessRefused x (blocksOpened anyList never maxDocid k ls)) (sym f);
           blocks = m ∙ ap {B = ℕ} (λ x. unlessRefused x (blockCount ls)) (sym f);
@@ -90,7 +91,7 @@ module _ (s ats sizes : List ℕ) (k : ℕ) (r : Blocks) (g : Tabled s ats sizes
     ends-wrong p l e =
         let at = b .run .wrong in
         let f : refused 8 at ≡ pruned anyList never maxDocid k ls = rw (lt-ltb at (length s) l) at (filled .1 .run .found) in
-        rw e (booked (refusal 8 at (b .intervals)) (refused 8 at) (sym f) refl (omega arith) (λ n o q. refl) refl refl refl)
+        rw e (booked (refusal 8 at (b .intervals)) (refused 8 at) (sym f) refl (omega arith) (λ n o q. refl) refl refl refl refl)
 
     pub ends-done : length s ≤ b .run .wrong
         → Answers (over k fs cs ms (listsFrom s ws ats sizes)) fs′ cs′ ms′ (record { verdict = Done; intervals = b .intervals; opened = b .run .opened; blocks = r .n; kept = b .run .kept })
@@ -98,4 +99,4 @@ module _ (s ats sizes : List ℕ) (k : ℕ) (r : Blocks) (g : Tabled s ats sizes
         let hits = keptOf (b .run .kept) in
         let f : done hits ≡ pruned anyList never maxDocid k ls = rw (le-ltb (b .run .wrong) (length s) l) at (filled .1 .run .found) in
         let n : r .n ≡ blockCount ls = tabled-count s ats sizes k r g ws w ∙ ap blockCount (sym (tabled-lists s ats sizes k r g ws w)) in
-        booked _ (done hits) (sym f) refl (omega (arith, filled .1 .run .few l, g .ok .walked .most)) (λ m o q. let z : _≡_ {A = ℕ} 0 1 = cc in absurd (omega arith)) refl (filled .1 .run .opened l) n
+        booked _ (done hits) (sym f) refl (omega (arith, filled .1 .run .few l, g .ok .walked .most)) (λ m o q. let z : _≡_ {A = ℕ} 0 1 = cc in absurd (omega arith)) (filled .1 .run .whole l) refl (filled .1 .run .opened l) n

@@ -12,11 +12,11 @@ use Rattle.shelf.specs.Walk.{walk}
 use Rattle.lookup.specs.Table.{Gatherable}
 use Rattle.rank.specs.Rank.{Hit}
 use Rattle.rank.specs.Match.{anyList}
-use Rattle.rank.specs.Keep.{keptOf}
+use Rattle.rank.specs.Keep.{keptOf, noHits, keeper}
 use Rattle.prune.specs.Cut.{Listing, starts, ceilingAt, blockCount}
 use Rattle.prune.specs.Prune.{never, pruned, book, blocksOpened}
 use Rattle.exhaustive.specs.Lists.{listingsOf}
-use Rattle.exhaustive.specs.Exhaustive.{paperOf, noHits}
+use Rattle.exhaustive.specs.Exhaustive.{paperOf}
 use Rattle.exhaustive.specs.Merge.{Mergeable}
 use Rattle.exhaustive.specs.declared.all.Verdict.the-variants.{Refused}
 use Rattle.intervals.specs.Blocks.{roomFor}
@@ -85,6 +85,8 @@ pub record Answers (a : Answer) (fs′ cs′ ms′ : List ℕ) (r : Pruned) : Ty
   -- the keeper's count is the number of hits
   pub few : r .kept .n ≤ maxK
   pub cleared : (n at : ℕ) → r .verdict ≡ Refused n at → r .kept ≡ noHits
+  -- past the hits its rows are zeros
+  pub whole : r .kept ≡ keeper (keptOf (r .kept))
   pub intervals : r .intervals ≡ a .intervals
   pub opened : r .opened ≡ a .opened
   pub blocks : r .blocks ≡ a .blocks

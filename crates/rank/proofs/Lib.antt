@@ -7,5 +7,6 @@ pub mod Matches
 pub mod Withins
 pub mod Keepers
 pub mod Rows
+pub mod Keepings
 pub mod Runs
 pub mod Hits

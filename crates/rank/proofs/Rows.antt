@@ -6,12 +6,12 @@ use mathlib.Core.List.{List, [], _∷_, _++_}
 use native.Mathlib.Omega.{arith}
 use native.Mathlib.Numerals.{add-one}
 use lib.ListN.{length, take, drop, getD, set, length-append, length-take, length-drop, List·getD-eq-default}
-use lib.Seq.{take-all, take-suc, take-take, take-at, drop-cons, set-at, getD-at, getD-take, length-take-le, append-snoc}
+use lib.Seq.{take-all, take-suc, take-take, take-at, drop-at, drop-cons, set-at, getD-at, getD-take, length-take-le, append-snoc}
 use lib.Dec.{ltb}
 use borrow.Author.Tests.{ltb-true, ltb-false}
 use Rattle.model.proofs.Lists.{split}
 use Rattle.rank.specs.Rank.{Hit, ahead, insert, keep, kth, Ordered}
-use Rattle.model.specs.Post.{scores, post, postings}
+use Rattle.model.specs.Post.{docs, scores, post, postings}
 use Rattle.rank.proofs.Ranks.{insert-ordered, take-ordered}
 use Rattle.rank.proofs.Places.{insert-at, behind-before}
 use Rattle.rank.specs.Keep.{putAt}
@@ -111,6 +111,9 @@ keep-same xs k p h a b l e =
 pub open-length {ℓ} : {A : Type ℓ} (p e : ℕ) (x : A) (a : List A) → e ≤ length a → length (take e (putAt p x a) ++ drop e a) ≡ length a
 open-length p e x a l = rw length-append (omega (arith, length-take e (putAt p x a), length-drop e a, put-length p x a))
 
+pub open-past {ℓ} : {A : Type ℓ} (p e : ℕ) (x : A) (a : List A) → e ≤ length a → drop e (take e (putAt p x a) ++ drop e a) ≡ drop e a
+open-past p e x a l = drop-at (take e (putAt p x a)) (drop e a) e (length-take-le e (putAt p x a) (omega (arith, put-length p x a)))
+
 -- in an ordered list of k hits, one that is behind the last changes nothing
 pub keep-behind : (xs : List Hit) (k j : ℕ) (h : Hit) → length xs ≡ k → k ≡ suc j → Ordered xs → ahead h (getD xs j (post 0 0)) ≡ false → xs ≡ keep k xs h
 keep-behind xs k j h l s o e =
@@ -122,12 +125,18 @@ pub keep-ordered : (k : ℕ) (xs : List Hit) (h : Hit) → Ordered xs → Ordere
 keep-ordered k xs h o = take-ordered k (insert h xs) (insert-ordered h xs o)
 
 -- the kth score of the kept rows stands in the run of scores
-scores-rows : (n : ℕ) (ds ss : List ℕ) → length ds ≡ length ss → scores (take n (postings ds ss)) ≡ take n ss
+pub scores-rows : (n : ℕ) (ds ss : List ℕ) → length ds ≡ length ss → scores (take n (postings ds ss)) ≡ take n ss
 scores-rows zero ds ss e = refl
 scores-rows (suc n) [] [] e = refl
 scores-rows (suc n) [] (s ∷ ss) e = absurd (omega arith)
 scores-rows (suc n) (d ∷ ds) [] e = absurd (omega arith)
 scores-rows (suc n) (d ∷ ds) (s ∷ ss) e = ap {B = List ℕ} (λ t. s ∷ t) (scores-rows n ds ss (omega arith))
+
+pub docs-rows : (n : ℕ) (ds ss : List ℕ) → length ds ≡ length ss → docs (take n (postings ds ss)) ≡ take n ds
+docs-rows zero ds ss e = refl
+docs-rows (suc n) [] ss e = refl
+docs-rows (suc n) (d ∷ ds) [] e = absurd (omega arith)
+docs-rows (suc n) (d ∷ ds) (s ∷ ss) e = ap {B = List ℕ} (λ t. d ∷ t) (docs-rows n ds ss (omega arith))
 
 pub kth-rows : (k n : ℕ) (ds ss : List ℕ) → length ds ≡ length ss → kth k (take n (postings ds ss)) ≡ getD (take n ss) (k - 1) 0
 kth-rows k n ds ss e = ap {B = ℕ} (λ t. getD t (k - 1) 0) (scores-rows n ds ss e)

@@ -1,5 +1,5 @@
 -- What the heads still have, as lists of postings: the two passes, the advance and the skip, said of those lists. Assumes nothing.
-use Prim.Native.Nat.{ℕ, suc, _+_, _≤_, _<_}
+use Prim.Native.Nat.{ℕ, zero, suc, _+_, _≤_, _<_}
 use mathlib.Core.Path.{_≡_, refl, sym, ap, _∙_}
 use mathlib.Core.List.{List, [], _∷_, _++_, map}
 use native.Mathlib.Omega.{arith}
@@ -15,7 +15,7 @@ use Rattle.model.specs.Post.{Post, post}
 use Rattle.model.proofs.Lists.{split, map-turn, map-here, map-past, set-map, getD-map}
 use Rattle.rank.specs.Match.{Term}
 use Rattle.rank.specs.Run.{none, leastOf, sumOf, dropTerm, skipTerm}
-use Rattle.scan.specs.Heads.{blank, least, sumAt, between, InBuffers, OwnPart, OwnParts, nextHead, stepIf, headPosts, termOf, terms, Skipped}
+use Rattle.scan.specs.Heads.{blank, least, sumAt, between, InBuffers, OwnPart, OwnParts, nextHead, stepIf, headPosts, termOf, terms, moveOn, skipHead, Skipped}
 use Rattle.scan.specs.declared.head.Head.{Head}
 use Rattle.scan.proofs.Heads.{least-top, All-set, own-set}
 
@@ -116,12 +116,40 @@ module _ (ds ss : List ℕ) where
     unfolding headPosts
     skip-stop l = split (ltb (h .doc) none) (λ e. rw (e, le-ltb (h .doc) first l)) (λ e. rw e)
 
+    -- the same of the head itself
+    pub head-turn : InBuffers ds ss h → h .doc < first → first ≤ none → skipHead ds ss first (nextHead ds ss h) ≡ skipHead ds ss first h
+    unfolding skipHead
+    head-turn i l m =
+        let e : headPosts ds ss (nextHead ds ss h) ≡ between ds ss (h .at) (h .end) = ap {B = List Post} (λ t. t .posts) (next-term h i) in
+        rw (e, there (omega arith), lt-ltb (h .doc) first l)
+
+    pub head-stop : first ≤ h .doc → skipHead ds ss first h ≡ h
+    unfolding skipHead
+    head-stop l = stop (length (headPosts ds ss h))
+      where
+        stop : (n : ℕ) → moveOn ds ss n first h ≡ h
+        stop zero = refl
+        stop (suc n) = rw (le-ltb (h .doc) first l)
+
+  -- ---- the skip, of all heads
+  head-step : (first d : ℕ) (h : Head) → d < first → first ≤ none → InBuffers ds ss h → skipHead ds ss first (stepIf ds ss d h) ≡ skipHead ds ss first h
+  head-step first d h l m i = split (eqb (h .doc) d) (λ e. rw e (head-turn first h i (omega (arith, eqb-true (h .doc) d e)) m)) (λ e. rw e)
+
+  pub heads-step : (first d : ℕ) (hs : List Head) → d < first → first ≤ none → All (InBuffers ds ss) hs → map (skipHead ds ss first) (map (stepIf ds ss d) hs) ≡ map (skipHead ds ss first) hs
+  heads-step first d [] l m i = refl
+  heads-step first d (h ∷ hs) l m i = cc (head-step first d h l m (i .0), heads-step first d hs l m (i .1))
+
+  pub heads-stop : (first : ℕ) (hs : List Head) → first ≤ least hs → map (skipHead ds ss first) hs ≡ hs
+  heads-stop first [] l = refl
+  heads-stop first (h ∷ hs) l = cc (head-stop first h (omega arith), heads-stop first hs (omega arith))
+
 -- One turn of `skip_all`
 pub record Skipping (ds ss : List ℕ) (first : ℕ) (heads hs : List Head) (i : ℕ) : Type 0 where
   pub i-in : i ≤ maxTerms
   pub long : length hs ≡ maxTerms
   pub inside : All (InBuffers ds ss) hs
   pub parts : OwnParts 0 hs
+  pub moved : hs ≡ map (skipHead ds ss first) (take i heads) ++ drop i heads
   pub same : terms ds ss hs ≡ map (skipTerm first) (take i (terms ds ss heads)) ++ drop i (terms ds ss heads)
 
 module _ (ds ss : List ℕ) (first : ℕ) (heads hs : List Head) (i : ℕ) (w : Skipping ds ss first heads hs i) (n : length heads ≡ maxTerms) where
@@ -133,11 +161,16 @@ module _ (ds ss : List ℕ) (first : ℕ) (heads hs : List Head) (i : ℕ) (w : 
       let z = termOf ds ss blank in
       let here : termOf ds ss (getD hs i blank) ≡ getD (terms ds ss heads) i z =
       sym (getD-map (termOf ds ss) blank hs i) ∙ ap {B = Term} (λ t. getD t i z) (w .same) ∙ map-here z (skipTerm first) (terms ds ss heads) i (omega (arith, terms-long)) in
+      let head : getD hs i blank ≡ getD heads i blank = ap {B = Head} (λ x. getD x i blank) (w .moved) ∙ map-here blank (skipHead ds ss first) heads i (omega (arith, n)) in
       record {
         i-in = omega arith;
         long = length-set hs i h ∙ w .long;
         inside = All-set (InBuffers ds ss) hs i h (w .inside) (s .inside);
         parts = own-set 0 hs i h (s .parts) (w .parts);
+        moved =
+            ap {B = List Head} (λ x. set hs i x) (s .moved ∙ ap (skipHead ds ss first) head)
+            ∙ ap {B = List Head} (λ x. set x i (skipHead ds ss first (getD heads i blank))) (w .moved)
+            ∙ map-turn blank (skipHead ds ss first) heads i (omega (arith, n));
         same =
             set-map (termOf ds ss) hs i h
             ∙ ap {B = List Term} (λ t. set (terms ds ss hs) i t) (s .same ∙ ap (skipTerm first) here)
@@ -147,3 +180,6 @@ module _ (ds ss : List ℕ) (first : ℕ) (heads hs : List Head) (i : ℕ) (w : 
 
   pub skipping-done : maxTerms ≤ i → terms ds ss hs ≡ map (skipTerm first) (terms ds ss heads)
   skipping-done l = w .same ∙ map-past (termOf ds ss blank) (skipTerm first) (terms ds ss heads) i (omega (arith, terms-long))
+
+  pub skipping-moved : maxTerms ≤ i → hs ≡ map (skipHead ds ss first) heads
+  skipping-moved l = w .moved ∙ map-past blank (skipHead ds ss first) heads i (omega (arith, n))

@@ -1,5 +1,5 @@
 -- Lists read out of two buffers: what a head still has, the smallest docid, the sum at it, the heads moved on. Assumes nothing.
-use Prim.Native.Nat.{ℕ, suc, _+_, _*_, _≤_, _<_, min}
+use Prim.Native.Nat.{ℕ, zero, suc, _+_, _*_, _≤_, _<_, min}
 use mathlib.Core.Path.{_≡_}
 use mathlib.Core.Bool.{cond}
 use mathlib.Core.List.{List, [], _∷_, map}
@@ -77,8 +77,18 @@ termOf ds ss h = record { weight = h .weight; posts = headPosts ds ss h }
 abbrev pub terms : (ds ss : List ℕ) → List Head → List Term
 terms ds ss hs = map (termOf ds ss) hs
 
--- the contract of moving a head to its list's first posting from a docid on
+-- a head moved on while it stands below a docid, that many times at most
+abbrev pub moveOn : (ds ss : List ℕ) (most first : ℕ) → Head → Head
+moveOn ds ss zero first h = h
+moveOn ds ss (suc n) first h = cond (ltb (h .doc) first) (moveOn ds ss n first (nextHead ds ss h)) h
+
+-- to its list's first posting from that docid on, or to its end
+unfoldable pub skipHead : (ds ss : List ℕ) (first : ℕ) → Head → Head
+skipHead ds ss first h = moveOn ds ss (length (headPosts ds ss h)) first h
+
+-- the contract of moving a head there
 pub record Skipped (ds ss : List ℕ) (first : ℕ) (h r : Head) : Type 0 where
+  pub moved : r ≡ skipHead ds ss first h
   pub inside : InBuffers ds ss r
   pub same : termOf ds ss r ≡ skipTerm first (termOf ds ss h)
   pub parts : (t : ℕ) → OwnPart t h → OwnPart t r

@@ -17,7 +17,7 @@ merge-requires : tie.Need-merge-requires
 merge-requires c κs = search needs
 
 returns : tie.Need-returns
-returns c = record { answer = sym (c .before .before .merge .ensures .ranked (c .if1 .taken)); few = omega (arith, c .before .before .merge .ensures .few, c .before .before .before .before .pre .most); cleared = λ n at e. let z : _≡_ {A = ℕ} 0 1 = cc in absurd (omega arith) }
+returns c = record { answer = sym (c .before .before .merge .ensures .ranked (c .if1 .taken)); few = omega (arith, c .before .before .merge .ensures .few, c .before .before .before .before .pre .most); cleared = λ n at e. let z : _≡_ {A = ℕ} 0 1 = cc in absurd (omega arith); whole = c .before .before .merge .ensures .whole }
 
 first-wrong-requires : tie.Need-first-wrong-requires
 first-wrong-requires c κs = let st = c .before .before .before .before in (st .pre .walked, st .pre .addressed)

@@ -75,6 +75,7 @@ returns c =
       wrong = λ q. absurd (false≢true (sym q));
       ranked = λ q. rw (all-of opened _ _, bad-of opened) at (merging-done _ _ _ _ _ _ _ _ _ (at .loop .inv) _ _ _ _ f (c .before .horizon .result) (c .before .horizon .ensures) (c .if2 .taken));
       few = at .loop .inv .room;
+      whole = at .loop .inv .whole;
     }
 
 -- up to the horizon, which is no end
@@ -119,6 +120,7 @@ returns-2 c =
       wrong = λ q e. merging-wrong _ _ _ _ _ _ _ _ _ (at .loop .inv) (fill .fill .ensures .wrong (c .if1 .left)) (bad-of opened ∙ e);
       ranked = λ q. absurd (false≢true q);
       few = at .loop .inv .room;
+      whole = at .loop .inv .whole;
     }
 
 pub merge-spec : {M : Type 1} → statement M

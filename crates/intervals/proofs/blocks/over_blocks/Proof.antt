@@ -103,7 +103,7 @@ new-requires : tie.Need-new-requires
 new-requires c κs = search needs
 
 returns-2 : tie.Need-returns-2
-returns-2 c = blocks-short _ _ _ _ _ _ _ _ _ (c .before .before .before .before .before .before .before .before .before .before .before .before .before .before .before .before .before .pre) _ _ _ (c .before .before .before .before .all-cuts .ensures) _ _ _ _ (sym (c .before .before .has-room .ensures) ∙ c .before .if1 .left)
+returns-2 c = blocks-short _ _ _ _ _ _ _ _ _ (c .before .before .before .before .before .before .before .before .before .before .before .before .before .before .before .before .before .pre) _ _ _ (c .before .before .before .before .all-cuts .ensures) _ _ _ _ (c .new .ensures) (sym (c .before .before .has-room .ensures) ∙ c .before .if1 .left)
 
 pub over-blocks-spec : {M : Type 1} → statement M
 over-blocks-spec =

@@ -101,12 +101,12 @@ returns c =
     let ok = c .before .before .before .before .before .before .before .before .before .before .before .before .before .before .before .before .before .before .before .before .before .before .before .before .before .before .before .before .before .before .before .before .before .before .before .before .before .before .before .before .pre in
     let l = c .before .before .before .before .before .before .before .before .before .before .before .before .before .before .before .before .before .before .before .loop in
     let t = c .before .before .before .before .before .before .before .before .before .before .before .before .before .before .before .before .before .before .loop-test .taken in
-    past-stop _ _ _ _ _ _ _ _ _ _ _ _ ok _ _ _ _ _ _ _ _ _ _ (l .inv .0) t _ _ (c .before .before .before .before .before .before .before .before .before .before .before .before .before .meet-all .ensures) (l .inv .1 t) _ (c .before .before .before .before .before .before .before .before .before .before .before .before .before .before .before .before .last-of .ensures) _ _ _ (c .before .before .before .before .before .before .«open» .ensures) _ _ _ (c .before .before .before .before .before .if1 .taken) (skip-past _ _ _ _ _ _ _ (c .before .before .before .before .before .before .before .before .before .before .before .before .before .before .before .before .before .before .before .before .before .before .skip-shut .ensures)) (c .before .before .before .mark-all .ensures)
+    past-stop _ _ _ _ _ _ _ _ _ _ _ _ ok _ _ _ _ _ _ _ _ _ _ (l .inv .0) t _ _ (c .before .before .before .before .before .before .before .before .before .before .before .before .before .meet-all .ensures) (l .inv .1 t) _ (c .before .before .before .before .before .before .before .before .before .before .before .before .before .before .before .before .last-of .ensures) _ _ _ (c .before .before .before .before .before .before .«open» .ensures) _ _ _ (c .new2 .ensures) (c .before .before .before .before .before .if1 .taken) (skip-past _ _ _ _ _ _ _ (c .before .before .before .before .before .before .before .before .before .before .before .before .before .before .before .before .before .before .before .before .before .before .skip-shut .ensures)) (c .before .before .before .mark-all .ensures)
 
 add-opened : tie.Need-add-opened Inv-loop μ-loop
 add-opened c =
     let l = c .before .before .before .before .before .before .before .before .before .before .before .before .before .before .before .before .before .loop in
-    omega (arith, past-few _ _ _ _ _ _ _ _ _ _ _ _ (c .before .before .before .before .before .before .before .before .before .before .before .before .before .before .before .before .before .before .before .before .before .before .before .before .before .before .before .before .before .before .before .before .before .before .before .before .before .before .pre) _ _ _ _ _ _ _ _ _ _ (l .inv .0), opens-few _ _ _ _ _ _ _ _ _ _ _ _ _ _ _ _ (c .before .before .before .before .«open» .ensures))
+    omega (arith, past-few _ _ _ _ _ _ _ _ _ _ _ _ (c .before .before .before .before .before .before .before .before .before .before .before .before .before .before .before .before .before .before .before .before .before .before .before .before .before .before .before .before .before .before .before .before .before .before .before .before .before .before .pre) _ _ _ _ _ _ _ _ _ _ (l .inv .0), opens-few _ _ _ _ _ _ _ _ _ _ _ _ _ _ _ _ _ _ _ (c .before .before .before .before .«open» .ensures))
 
 slice-write-marks-2 : tie.Need-slice-write-marks-2 Inv-loop μ-loop
 slice-write-marks-2 c =

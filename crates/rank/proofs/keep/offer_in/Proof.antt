@@ -1,6 +1,6 @@
 -- `offer_in` meets its contract: where k are kept and the post is behind the last, nothing changes. Assumes nothing.
 use Prim.Native.Nat.{suc, _-_}
-use mathlib.Core.Path.{_≡_, sym, _∙_}
+use mathlib.Core.Path.{_≡_, refl, sym, _∙_}
 use native.Mathlib.Omega.{arith}
 use lib.ListN.{length, take, getD}
 use lib.Seq.{length-take-le, getD-take}
@@ -53,9 +53,12 @@ returns-3 c =
     let here : getD (take n (postings ds ss)) j (post 0 0) ≡ post (getD ds j 0) (getD ss j 0) = getD-take n (postings ds ss) j (post 0 0) (omega arith) ∙ rows-getD ds ss j (omega arith) (omega arith) in
     record {
       kept = keep-behind (take n (postings ds ss)) (st .args .k) j (post (st .args .d) (st .args .s)) (omega arith) pos (st .pre .5) (rw here (sym (c .before .is-ahead .ensures) ∙ c .if2 .left));
+      grows = omega arith;
       most = st .pre .2;
       docids = st .pre .0;
       scores = st .pre .1;
+      docids-past = refl;
+      scores-past = refl;
     }
 
 pub offer-in-spec : {M : Type 1} → statement M

@@ -22,10 +22,12 @@ returns c =
     let r = c .run .ensures in
     record {
       kept = interval-kept (st .args .k) (st .args .first) (st .args .last) (keptOf (st .args .kept)) _ ts (terms ds ss (skip .result)) (skip .ensures .same) (st .pre .below) (st .pre .rising) (r .kept);
+      rows = r .rows;
       room = r .room;
       order = r .order;
       inside = r .inside;
       parts = r .parts;
+      moved = rw (skip .ensures .moved) at (r .moved);
       left = interval-left (st .args .first) (st .args .last) ts (terms ds ss (skip .result)) _ (skip .ensures .same) (st .pre .below) (st .pre .from) (r .left);
     }
 

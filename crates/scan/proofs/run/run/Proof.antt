@@ -8,9 +8,9 @@ use native.Mathlib.Omega.{arith}
 use native.Mathlib.Nat.{min-eq-right}
 use borrow.Author.Needs.{needs}
 use lib.ListN.{length, take, drop, getD, set, length-map}
-use Rattle.model.specs.Post.{postings}
 use Rattle.model.proofs.Lists.{map-here}
 use Rattle.rank.specs.Run.{none, size}
+use Rattle.rank.proofs.Keepings.{kept-on}
 use Rattle.scan.specs.Heads.{blank, InBuffers, least, sumAt, stepIf, terms}
 use Rattle.scan.specs.Run.{Idle}
 use Rattle.scan.specs.declared.head.Head.{Head}
@@ -35,7 +35,7 @@ abbrev μ-loop3 : tie.MeasureT-loop3
 μ-loop3 ds ss last k m hs₀ best sums n d i s₀ j₀ hs s j = m - j
 
 abbrev Inv-loop : tie.InvT-loop
-Inv-loop ds ss last k m hs₀ best₀ sums₀ n₀ hs best sums n = Running ds ss hs₀ last k (take n₀ (postings best₀ sums₀)) hs best sums n × Idle m hs
+Inv-loop ds ss last k m hs₀ best₀ sums₀ n₀ hs best sums n = Running ds ss hs₀ last k (record { docids = best₀; scores = sums₀; n = n₀ }) hs best sums n × Idle m hs
 
 abbrev μ-loop : tie.MeasureT-loop
 μ-loop ds ss last k m hs₀ best₀ sums₀ n₀ hs best sums n = size (terms ds ss hs)
@@ -89,7 +89,8 @@ returns c =
     let all : two .loop2 .i ≡ used .in-use .result = omega (arith, two .loop2 .inv .0) in
     let e = run-ended (st .args .last) (two .loop2 .d) (st .args .docs .now) (st .args .scores .now) (one .loop .hs) (c .if2 .taken)
     (sym (two .loop2 .inv .2 ∙ least-past (one .loop .hs) (two .loop2 .i) (two .loop2 .d) (rw all (one .loop .inv .1)) (two .loop2 .inv .1))) in
-    record { kept = rw (e .0) at (w .hits); room = w .room; order = w .order; inside = w .inside; parts = w .parts; left = sym (e .1) ∙ w .left }
+    let rows = kept-on (st .args .kept) (one .loop .best) (one .loop .sums) (one .loop .n) (w .best-long ∙ sym (w .sums-long)) (omega (arith, w .best-long, w .room, st .pre .most)) (w .best-past) (w .sums-past) in
+    record { kept = rw (e .0) at (w .hits); rows = rows; room = w .room; order = w .order; inside = w .inside; parts = w .parts; moved = sym (e .2) ∙ w .moved; left = sym (e .1) ∙ w .left }
 
 loop3-holds : tie.Need-loop3-holds Inv-loop2 μ-loop2 Inv-loop3 μ-loop3 Inv-loop μ-loop
 loop3-holds c = (omega arith, omega arith, refl, omega arith)

@@ -6,7 +6,7 @@ use borrow.Author.Needs.{needs}
 use lib.ListN.{length}
 use Rattle.scan.specs.Heads.{InBuffers}
 use Rattle.scan.proofs.Heads.{All-at}
-use Rattle.scan.proofs.Terms.{Skipping, skipping-turn, skipping-done}
+use Rattle.scan.proofs.Terms.{Skipping, skipping-turn, skipping-done, skipping-moved}
 use Rattle.scan.proofs.run.skip_all.Statement.{statement}
 use Rattle.scan.proofs.run.skip_all.Tie as tie
 
@@ -21,7 +21,7 @@ long : (c : tie.Start Inv-loop μ-loop) → length (c .args .heads) ≡ 8
 long c = c .good .0 .1 .0 .1
 
 loop-holds : tie.Need-loop-holds Inv-loop μ-loop
-loop-holds c = record { i-in = omega arith; long = long c; inside = c .pre .0; parts = c .pre .1; same = refl }
+loop-holds c = record { i-in = omega arith; long = long c; inside = c .pre .0; parts = c .pre .1; moved = refl; same = refl }
 
 mul-h : tie.Need-mul-h Inv-loop μ-loop
 mul-h c = search needs
@@ -57,7 +57,7 @@ returns : tie.Need-returns Inv-loop μ-loop
 returns c =
     let at = c .before in
     let st = at .before in
-    record { inside = at .loop .inv .inside; parts = at .loop .inv .parts; same = skipping-done (st .args .docs .now) (st .args .scores .now) (st .args .first) (st .args .heads) (at .loop .hs) (at .loop .i) (at .loop .inv) (long st) (omega arith) }
+    record { inside = at .loop .inv .inside; parts = at .loop .inv .parts; moved = skipping-moved (st .args .docs .now) (st .args .scores .now) (st .args .first) (st .args .heads) (at .loop .hs) (at .loop .i) (at .loop .inv) (long st) (omega arith); same = skipping-done (st .args .docs .now) (st .args .scores .now) (st .args .first) (st .args .heads) (at .loop .hs) (at .loop .i) (at .loop .inv) (long st) (omega arith) }
 
 pub skip-all-spec : {M : Type 1} → statement M
 skip-all-spec =
