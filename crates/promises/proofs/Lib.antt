@@ -1,7 +1,7 @@
 -- The demands hold (Demands), and the limits and the marked examples are as the paper says (Limits, Marked). What they stand on: for demand 1 the order of
 -- refusals (Refusals), their numbers (Numbers) and what a refusal leaves (Rows, Stops); for demand 2 good lists (Goods), the ranking (Ranks, Ranking), reading and
 -- writing (RoundTrips); for demand 3 the book (Book), edits (Edits) of which one writing is bytes (Written), a search after a conversion (Alike), and the
--- incident (Raised).
+-- incident (Raised). And a public contract that is no equation allows one outcome only (Determined).
 pub mod Demands
 pub mod Marked
 pub mod Limits
@@ -18,3 +18,4 @@ pub mod Book
 pub mod Edits
 pub mod Alike
 pub mod Raised
+pub mod Determined
