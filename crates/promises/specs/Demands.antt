@@ -69,7 +69,7 @@ pub record Demand1 : Type 0 where
   pub search-keeps : (q s : List ℕ) (rows : ℕ) (fs cs ms : List ℕ) (n at : ℕ) → searched q s rows fs cs ms .outcome ≡ refused n at → (n ≡ 8 → ⊥)
       → searched q s rows fs cs ms ≡ record { outcome = refused n at; intervals = 0; opened = 0; blocks = 0; firsts = fs; ceilings = cs; marks = ms }
   -- the same of the rows that are lent for hits, in either public form, 8 included: "and hit rows are untouched"
-  pub rank-rows : (q s : List ℕ) (r : Lent) (n at : ℕ) → rankAll q s (rowsIn r) ≡ refused n at → left (rankAll q s (rowsIn r)) r ≡ r
+  pub rank-keeps : (q s : List ℕ) (r : Lent) (n at : ℕ) → rankAll q s (rowsIn r) ≡ refused n at → left (rankAll q s (rowsIn r)) r ≡ r
   pub search-rows : (q s : List ℕ) (r : Lent) (fs cs ms : List ℕ) (n at : ℕ) → searched q s (rowsIn r) fs cs ms .outcome ≡ refused n at → left (searched q s (rowsIn r) fs cs ms .outcome) r ≡ r
   -- (the paper) "rows past the last hit are not touched, nor is any other output past its end": the hits and then the rows as they were, and the book's runs past its rows
   pub rank-fills : (q s : List ℕ) (r : Lent) (hs : List Hit) → rankAll q s (rowsIn r) ≡ done hs → Filled hs r (left (rankAll q s (rowsIn r)) r)
