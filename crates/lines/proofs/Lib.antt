@@ -4,4 +4,6 @@ pub mod Decimals
 pub mod Lines
 pub mod Printing
 pub mod Sizes
+pub mod Beginnings
+pub mod Speaking
 pub mod Examples

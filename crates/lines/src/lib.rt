@@ -2,4 +2,5 @@
 pub mod line;
 pub mod number;
 pub mod rows;
+pub mod said;
 pub mod split;

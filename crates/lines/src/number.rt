@@ -8,7 +8,7 @@ ghost use Rattle.lines.specs.Text.{decimal, numbers};
 // The code of the digit 0; the other digits come after it.
 const ZERO: u8 = 48;
 
-pub(crate) fn put_word(out: &mut [u8], at: usize, word: &[u8]) -> usize
+pub fn put_word(out: &mut [u8], at: usize, word: &[u8]) -> usize
     requires { ⌜ at + length (now word) ≤ length (now out) ⌝ }
     ensures { λ r. ⌜ Stored (now (out .entry)) (now (out .exit)) at r (now (word .entry)) ⌝ }
 {

@@ -1,4 +1,4 @@
--- scratch
+-- The laws of the report.
 pub mod Prints
 pub mod Finds
 pub mod Reports

@@ -2,8 +2,9 @@
 -- shelf. It runs the pruned search." Assumes nothing.
 use Prim.Native.Nat.{ℕ, _≤_}
 use mathlib.Core.Path.{_≡_}
-use mathlib.Core.Bool.{Bool, cond}
+use mathlib.Core.Bool.{cond}
 use mathlib.Core.List.{List, map}
+use lib.Dec.{ltb}
 use lib.ListN.{length, take, drop}
 use Rattle.model.specs.Limits.{maxDocid, maxK}
 use Rattle.model.specs.Outcome.{Outcome, refused, done, andThen}
@@ -31,8 +32,19 @@ unfoldable pub searchShown : (q s : List ℕ) → Outcome Shown
 searchShown q s = shownOf (sought q s maxK maxIntervals maxIntervals maxIntervals)
 
 -- "13: program input over 65,536 bytes, before all else"
-unfoldable pub reported : (more : Bool) (input : List ℕ) → List ℕ
-reported more input = text (cond more (refused 13 0) (searchShown (take (querySize input) input) (drop (querySize input) input)))
+abbrev pub maxInput : ℕ
+maxInput = 65536
+
+-- "fields tagged 20 or 21, while whole, are the query; the rest is the shelf"
+abbrev pub queryPart : List ℕ → List ℕ
+queryPart input = take (querySize input) input
+
+abbrev pub shelfPart : List ℕ → List ℕ
+shelfPart input = drop (querySize input) input
+
+-- the whole output
+unfoldable pub reported : (input : List ℕ) → List ℕ
+reported input = text (cond (ltb maxInput (length input)) (refused 13 0) (searchShown (queryPart input) (shelfPart input)))
 
 -- ---- the private contracts
 

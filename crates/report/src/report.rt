@@ -2,11 +2,17 @@
 ghost use Prim.Native.Nat.{_≤_};
 ghost use lib.ListN.{length};
 ghost use Rattle.model.specs.Runs.{Holds};
-ghost use Rattle.lines.specs.Text.{text};
+ghost use Rattle.lines.specs.Text.{codes, text};
 ghost use Rattle.lines.specs.Book.{maxOutput};
+ghost use Rattle.lines.specs.Said.{Speaks};
 ghost use Rattle.report.specs.Report.{searchShown, reported, told, Printable, Room};
 use exhaustive::all::Verdict;
+use lines::said::Said;
+use lines::said::Start;
 use pruned::search::Pruned;
+
+// The longest input that is searched.
+const MAX_INPUT: usize = 65536;
 
 // What a search answered, with its book: the line of a refusal, or the lines of its hits, its intervals and its blocks.
 fn print<'a>(
@@ -58,12 +64,12 @@ fn show<'a>(
     print(out, found, firsts, ceilings, marks)
 }
 
-// The program's output for its input, at the front of `out`; `more` tells that the input goes on past its first 65,536 bytes.
-pub fn report(input: &[u8], more: bool, out: &mut [u8]) -> usize
+// The output for an input that was read, at the front of `out`.
+fn report(input: &[u8], out: &mut [u8]) -> usize
     requires { ⌜ maxOutput ≤ length (now out) ⌝ }
-    ensures { λ r. ⌜ Holds (now (out .entry)) (reported more (now (input .entry))) (now (out .exit)) r ⌝ }
+    ensures { λ r. ⌜ Holds (now (out .entry)) (reported (now (input .entry))) (now (out .exit)) r ⌝ }
 {
-    if more {
+    if MAX_INPUT < input.len() {
         return lines::line::put_refusal(out, 0, 13, 0);
     }
     let n = lines::split::split(input);
@@ -78,4 +84,18 @@ pub fn report(input: &[u8], more: bool, out: &mut [u8]) -> usize
         &mut marks,
         out,
     )
+}
+
+// What the program says: `read` tells whether its input could be read. Its answer stands at the front of `out`, and what goes to standard error at the
+// front of `err`.
+pub fn respond(read: bool, input: &[u8], out: &mut [u8], err: &mut [u8]) -> Said
+    ensures { λ r. ⌜ Speaks (codes "search") read (reported (now (input .entry))) (now (out .entry)) (now (err .entry)) (now (out .exit)) (now (err .exit)) r ⌝ }
+{
+    match lines::said::begin(b"search", read, out.len(), err) {
+        Start::Stop(n) => Said { out: 0, err: n },
+        Start::Answer => Said {
+            out: report(input, out),
+            err: 0,
+        },
+    }
 }

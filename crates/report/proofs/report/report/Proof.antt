@@ -15,7 +15,7 @@ same-length : tie.Need-same-length
 same-length c = search needs
 
 returns : tie.Need-returns
-returns c = let a = c .before .before .before .before .before .before .before .args in too-long (a .more) (now (a .input)) (now (a .out)) (c .before .before .put-refusal .last .0) (c .before .before .put-refusal .result) (c .before .before .before .before .if1 .taken) (c .before .before .before .before .before .before .before .pre) (c .before .before .put-refusal .ensures)
+returns c = let a = c .before .before .before .before .before .before .before .args in too-long (now (a .input)) (now (a .out)) (c .before .before .put-refusal .last .0) (c .before .before .put-refusal .result) (c .before .before .before .before .if1 .taken) (c .before .before .before .before .before .before .before .pre) (c .before .before .put-refusal .ensures)
 
 split-requires : tie.Need-split-requires
 split-requires c κs = search needs
@@ -54,7 +54,7 @@ same-length-2 : tie.Need-same-length-2
 same-length-2 c = search needs
 
 returns-2 : tie.Need-returns-2
-returns-2 c = let a = c .before .before .before .before .before .before .before .before .before .before .before .before .before .before .before .before .args in searches (a .more) (now (a .input)) (now (a .out)) (c .before .before .before .before .before .show .last .1 .1 .1 .1 .1 .0) (c .before .before .before .before .before .show .result) (c .before .before .before .before .before .before .before .before .before .before .before .before .split .result) (c .before .before .before .before .before .before .before .before .before .before .before .before .before .if1 .left) (c .before .before .before .before .before .before .before .before .before .before .before .before .split .ensures) (c .before .before .before .before .before .show .ensures)
+returns-2 c = let a = c .before .before .before .before .before .before .before .before .before .before .before .before .before .before .before .before .args in searches (now (a .input)) (now (a .out)) (c .before .before .before .before .before .show .last .1 .1 .1 .1 .1 .0) (c .before .before .before .before .before .show .result) (c .before .before .before .before .before .before .before .before .before .before .before .before .split .result) (c .before .before .before .before .before .before .before .before .before .before .before .before .before .if1 .left) (c .before .before .before .before .before .before .before .before .before .before .before .before .split .ensures) (c .before .before .before .before .before .show .ensures)
 
 pub report-spec : {M : Type 1} → statement M
 report-spec =

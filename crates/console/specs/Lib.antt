@@ -1,0 +1,2 @@
+-- What a call of the system answered, and what comes of it.
+pub mod Calls
