@@ -1,50 +1,56 @@
+-- `report::report::respond` meets its contract: it stops as it began, or it answers. Assumes nothing.
+use mathlib.Core.Path.{_≡_}
+use denote.Ref.{now}
 use borrow.Author.Needs.{needs}
+use Rattle.lines.specs.Text.{codes}
+use Rattle.lines.specs.declared.said.Start.the-variants.{Stop, Answer}
+use Rattle.lines.proofs.Speaking.{speaks-stop, speaks-answer, answer-room}
+use Rattle.report.specs.Report.{reported}
 use Rattle.report.proofs.report.respond.Statement.{statement}
 use Rattle.report.proofs.report.respond.Tie as tie
-use Rattle.report.proofs.report.respond.Reads as reads
-use Rattle.report.proofs.report.respond.Lts as lts
-use Rattle.lines.proofs.said.begin.Reads as begin-reads
-use Rattle.report.proofs.report.report.Reads as report-reads
 
--- src/report.rt:94:30
 slice-aggregate-begin : tie.Need-slice-aggregate-begin
 slice-aggregate-begin c = search needs
 
--- src/report.rt:94:11
 begin-requires : tie.Need-begin-requires
 begin-requires c κs = search needs
 
--- src/report.rt:95:21
 enum-known-n : tie.Need-enum-known-n
 enum-known-n c = search needs
 
--- src/report.rt:97:32
 enum-told : tie.Need-enum-told
 enum-told c = search needs
 
--- src/report.rt:97:18
 report-requires : tie.Need-report-requires
-report-requires c κs = ?
+report-requires c κs =
+    let a = c .before .before .before .before .before .before .before .before .before .before .before .args in
+    let b = c .before .before .before .before .before .begin in
+    let e : b .result ≡ Answer = cc in
+    answer-room (codes "search") (reported (now (a .input))) (now (a .out)) (now (a .err)) (b .last .1 .1 .1 .0) (a .read) (b .result) (b .ensures) e
 
--- src/report.rt:91:1
 same-length : tie.Need-same-length
 same-length c = search needs
 
--- src/report.rt:91:1
 returns : tie.Need-returns
-returns c = ?
+returns c =
+    let a = c .before .before .before .before .before .before .before .before .before .before .before .args in
+    let b = c .before .before .before .before .before .begin in
+    let e : b .result ≡ Stop (c .before .n .given .0 .0) = cc in
+    speaks-stop (codes "search") (reported (now (a .input))) (now (a .out)) (now (a .err)) (b .last .1 .1 .1 .0) (a .read) (b .result) (b .ensures) (c .before .n .given .0 .0) e
 
--- src/report.rt:91:1
 same-length-2 : tie.Need-same-length-2
 same-length-2 c = search needs
 
--- src/report.rt:91:1
 same-length-3 : tie.Need-same-length-3
 same-length-3 c = search needs
 
--- src/report.rt:91:1
 returns-2 : tie.Need-returns-2
-returns-2 c = ?
+returns-2 c =
+    let a = c .before .before .before .before .before .before .before .before .before .before .before .before .before .before .args in
+    let b = c .before .before .before .before .before .before .before .before .begin in
+    let e : b .result ≡ Answer = cc in
+    speaks-answer (codes "search") (reported (now (a .input))) (now (a .out)) (now (a .err)) (b .last .1 .1 .1 .0) (a .read) (b .result) (b .ensures)
+    (c .before .before .report .last .1 .0) (c .before .before .report .result) e (c .before .before .report .ensures)
 
 pub respond-spec : {M : Type 1} → statement M
 respond-spec =

@@ -1,0 +1,2 @@
+-- What the checker program prints for its input.
+pub mod Verdict

@@ -1,0 +1,2 @@
+// The checker program's output for its input.
+pub mod verdict;
