@@ -15,11 +15,10 @@ use Rattle.rank.specs.Rank.{Hit}
 use Rattle.rank.specs.Match.{Term, scoreOf, anyList, matches, hitAt}
 use Rattle.rank.proofs.Matches.{any-matches}
 use Rattle.exhaustive.specs.Lists.{termOn}
-use Rattle.lines.specs.Text.{refusalLine}
-use Rattle.report.specs.Report.{reported}
 use Rattle.convert.specs.Convert.{converted}
 use Rattle.promises.specs.Demands.{Demand1, Demand2, Demand3}
 use Rattle.promises.proofs.Refusals.{exactly-first, none-exactly, query-refuses, check-refuses, show-refuses, block-refuses, shows-the-block, read-refuses, write-refuses, edit-refuses, convert-refuses, rank-refuses, search-refuses}
+use Rattle.promises.proofs.Programs.{program-refuses, program-answers, checker-refuses, checker-accepts}
 use Rattle.promises.proofs.Stops.{untouched, stopped-book, ended-book, book-past}
 use Rattle.promises.proofs.Rows.{rank-leaves, search-leaves, rank-fills, search-fills}
 use Rattle.promises.proofs.Ranks.{ranking-best}
@@ -34,10 +33,6 @@ use Rattle.promises.proofs.Raised.{raised-is-shown}
 kept : (o : Outcome (List ℕ)) (run : List ℕ) (n at : ℕ) → o ≡ refused n at → after o run ≡ run
 kept o run n at e = rw e
 
-too-long : (input : List ℕ) → reported true input ≡ refusalLine 13 0
-unfolding reported
-too-long input = refl
-
 pub demand-1 : Demand1
 demand-1 = record {
   query = query-refuses;
@@ -51,7 +46,10 @@ demand-1 = record {
   convert = convert-refuses;
   rank = rank-refuses;
   search = search-refuses;
-  program = too-long;
+  program-refuses = program-refuses;
+  program-answers = program-answers;
+  checker-refuses = checker-refuses;
+  checker-accepts = checker-accepts;
   exactly = exactly-first;
   never-without = none-exactly;
   read-keeps = λ t s ds ss n at e. (kept (docidsOf (readList t s _ _)) ds n at (rw e), kept (scoresOf (readList t s _ _)) ss n at (rw e));

@@ -77,7 +77,7 @@ none-exactly fs = (there fs, back fs)
 -- ---- tests one after another
 
 module _ {A : Type 0} where
-  when-row : (t : Bool) (n at : ℕ) (rest : Outcome A) → judged (cond t (refused n at) rest) ≡ andThen (row t n at) (λ ok. judged rest)
+  pub when-row : (t : Bool) (n at : ℕ) (rest : Outcome A) → judged (cond t (refused n at) rest) ≡ andThen (row t n at) (λ ok. judged rest)
   when-row true n at rest = refl
   when-row false n at rest = refl
 
@@ -90,7 +90,7 @@ module _ {A : Type 0} where
   judged-done (done tt) x = refl
 
 -- one row before others
-after : (f : Fault) {g h : Fault} → g ≡ h → andThen f (λ ok. g) ≡ andThen f (λ ok. h)
+pub after : (f : Fault) {g h : Fault} → g ≡ h → andThen f (λ ok. g) ≡ andThen f (λ ok. h)
 after f e = ap (λ (x : Fault). andThen f (λ ok. x)) e
 
 last-row : (f : Fault) → f ≡ andThen f (λ ok. done tt)

@@ -17,6 +17,7 @@ use Rattle.rank.specs.Match.{anyList, hitsOf, within}
 use Rattle.prune.specs.Cut.{Listing, Interval, intervalsFrom, starts, intervals, lies, howMany, sees, ceilingAt, blockCount}
 use Rattle.prune.specs.Prune.{faultAt, termsAt, chosen, countMet}
 use Rattle.pruned.specs.Pruned.{Answer, front}
+use Rattle.lines.specs.Text.{hitLines, intervalLines, blockLine}
 use Rattle.promises.specs.Served.{listsFor, intervalCount}
 
 -- row i of the book's three runs
@@ -143,3 +144,13 @@ pub record Ending (q s : List ℕ) (fs cs ms : List ℕ) (hs : List Hit) (a : An
   pub hits : hs ≡ ranking (search .question .k) (found (search .row) (metOn (listsFor (search .question) (search .lists)) .sheets))
   pub opened : a .opened ≡ countMet (chosen (search .row) (starts 16777215 (listsFor (search .question) (search .lists)))) (listsFor (search .question) (search .lists))
   pub blocks : a .blocks ≡ blockCount (listsFor (search .question) (search .lists))
+
+-- ---- what is printed of an answer
+
+-- "H rank from 1, docid, score; I first, last, ceiling, mark as a word; B blocks opened, blocks in all": the hits, the book's rows and the two counts
+pub record PrintedAs (text : List ℕ) (a : Answer) : Type 0 where
+  pub hits : List Hit
+  pub answered : a .outcome ≡ done hits
+  pub lines : text
+      ≡ hitLines 1 hits
+      ++ (intervalLines 16777215 (take (a .intervals) (a .firsts)) (take (a .intervals) (a .ceilings)) (take (a .intervals) (a .marks)) ++ blockLine (a .opened) (a .blocks))

@@ -1,5 +1,5 @@
 -- The three demands, each sentence with what is stated for it. All is said of the definitions to which the contracts of the entry points are equal for
--- every input: `asked`, `checked`, `found`, `readList`, `writeList`, `edited`, `converted`, `rankAll` and `searched`. Assumes nothing.
+-- every input: `asked`, `checked`, `found`, `readList`, `writeList`, `edited`, `converted`, `rankAll` and `searched`, and `reported` and `checkedText` of the programs. Assumes nothing.
 use Prim.Native.Nat.{ℕ, _^_, _≤_, _<_}
 use mathlib.Core.Path.{_≡_}
 use mathlib.Core.Bool.{Bool, true}
@@ -27,13 +27,14 @@ use Rattle.rank.specs.Match.{scoreOf, holds, some, hitAt}
 use Rattle.exhaustive.specs.Exhaustive.{rankAll}
 use Rattle.exhaustive.specs.Lists.{termOn}
 use Rattle.pruned.specs.Pruned.{Answer, searched}
-use Rattle.lines.specs.Text.{refusalLine}
-use Rattle.report.specs.Report.{reported}
-use Rattle.promises.specs.Refusals.{Fault, firstFault, IsFirst, queryFaults, checkFaults, showFaults, blockShown, blockFaults, readFaults, writeFaults, editFaults, convertFaults, rankFaults, searchFaults}
+use Rattle.lines.specs.Text.{codes, refusalLine}
+use Rattle.report.specs.Report.{queryPart, shelfPart, reported}
+use Rattle.checking.specs.Verdict.{checkedText}
+use Rattle.promises.specs.Refusals.{Fault, firstFault, IsFirst, queryFaults, checkFaults, showFaults, blockShown, blockFaults, readFaults, writeFaults, editFaults, convertFaults, rankFaults, searchFaults, programFaults}
 use Rattle.promises.specs.Served.{listsFor, matchesFor, Asks, Room, bytesOf}
 use Rattle.promises.specs.Ranked.{In, KBest}
 use Rattle.promises.specs.Rows.{Lent, rowsIn, left, Filled, Past}
-use Rattle.promises.specs.Book.{Booked, CutBy, Stopping, Ending}
+use Rattle.promises.specs.Book.{Booked, CutBy, Stopping, Ending, PrintedAs}
 use Rattle.promises.specs.Edits.{leftBy, matchesIn, AllNamed, Accepted, Changes, Converting, Converts, Shown}
 
 -- "1. Every entry point takes any shelf, query, posting or lent buffer, comes to an end,": each definition is total, and each contract has no premise.
@@ -55,8 +56,12 @@ pub record Demand1 : Type 0 where
   pub convert : (t : ℕ) (s : List ℕ) (room : ℕ) → judged (converted t s room) ≡ firstFault (convertFaults t s room)
   pub rank : (q s : List ℕ) (rows : ℕ) → judged (rankAll q s rows) ≡ firstFault (rankFaults q s rows)
   pub search : (q s : List ℕ) (rows : ℕ) (fs cs ms : List ℕ) → judged (searched q s rows fs cs ms .outcome) ≡ firstFault (searchFaults q s rows (length fs) (length cs) (length ms))
-  -- (the program) "13: program input over 65,536 bytes, before all else"
-  pub program : (input : List ℕ) → reported true input ≡ refusalLine 13 0
+  -- (the programs) "A refusal prints only `R number offset`.", and what is refused by none prints the answer
+  pub program-refuses : (input : List ℕ) (n at : ℕ) → firstFault (programFaults input) ≡ refused n at → reported input ≡ refusalLine n at
+  pub program-answers : (input fs cs ms : List ℕ) → length fs ≡ 1025 → length cs ≡ 1025 → length ms ≡ 1025
+      → firstFault (programFaults input) ≡ done tt → PrintedAs (reported input) (searched (queryPart input) (shelfPart input) 100 fs cs ms)
+  pub checker-refuses : (s : List ℕ) (n at : ℕ) → firstFault (checkFaults s) ≡ refused n at → checkedText s ≡ refusalLine n at
+  pub checker-accepts : (s : List ℕ) → firstFault (checkFaults s) ≡ done tt → checkedText s ≡ codes "sound\n"
   pub exactly : (rows : List Fault) (n at : ℕ) → (firstFault rows ≡ refused n at) ↔ IsFirst rows n at
   -- "and never without one."
   pub never-without : (rows : List Fault) → (firstFault rows ≡ done tt) ↔ All (λ (f : Fault). f ≡ done tt) rows

@@ -116,7 +116,7 @@ abbrev pub table : List Row
 table =
     -- "M1 the search above."
     row "M1" (gives (search (query 1) (shelfWith 1))) (gives (seven (done (post 4 11 ∷ [])) 2 3 1 (0 ∷ 1 ∷ 1 ∷ 0 ∷ 0 ∷ 0 ∷ 0 ∷ [])))
-    ∷ row "M1, printed" (prints (reported false (query 1 ++ shelfWith 1)))
+    ∷ row "M1, printed" (prints (reported (query 1 ++ shelfWith 1)))
     (prints (codes "H 1 4 11\nI 1 1 0 skipped\nI 2 3 5 opened\nI 4 4 13 opened\nI 5 6 8 skipped\nI 7 8 0 skipped\nI 9 9 1 skipped\nI 10 16777215 0 skipped\nB 2 3\n"))
     -- "M2 k=2: hits 4:11, 2:5; [5,6] opened."
     ∷ row "M2" (gives (search (query 2) (shelfWith 1))) (gives (seven (done (post 4 11 ∷ post 2 5 ∷ [])) 2 3 1 (0 ∷ 1 ∷ 1 ∷ 1 ∷ 0 ∷ 0 ∷ 0 ∷ [])))

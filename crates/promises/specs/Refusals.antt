@@ -31,6 +31,7 @@ use Rattle.prune.specs.Cut.{starts}
 use Rattle.prune.specs.Prune.{never, faultAll, pruned}
 use Rattle.exhaustive.specs.Lists.{listingsOf}
 use Rattle.intervals.specs.Blocks.{roomFor}
+use Rattle.report.specs.Report.{queryPart, shelfPart}
 
 -- ---- the order
 
@@ -183,3 +184,7 @@ searchFaults q s rows a b c =
     ∷ row (not (leb (kIn q) rows && roomFor (length (starts 16777215 (listsAsked q s))) a b c)) 9 0
     ∷ judged (pruned anyList never 16777215 (kIn q) (listsAsked q s))
     ∷ [])
+
+-- ---- the search program: 13 "before all else", then what the search of its input's two parts refuses, with room for every answer
+abbrev pub programFaults : (input : List ℕ) → List Fault
+programFaults input = row (ltb 65536 (length input)) 13 0 ∷ searchFaults (queryPart input) (shelfPart input) 100 1025 1025 1025
