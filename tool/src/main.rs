@@ -26,7 +26,7 @@ use std::{
 #[derive(Parser)]
 #[command(name = "tagmurlen", version)]
 struct Arguments {
-    /// Answer in JSON, one object on standard output, also where the answer is an error
+    /// Answer in JSON, one object on standard output, also for a refusal
     #[arg(long, global = true)]
     json: bool,
     #[command(subcommand)]
