@@ -1,8 +1,8 @@
 -- Before a program answers, by the tests that the code makes. Assumes nothing.
 use Prim.Native.Nat.{ℕ, _+_, _≤_, _<_}
 use native.Mathlib.Omega.{arith}
-use mathlib.Core.Path.{_≡_, refl, sym, subst}
-use mathlib.Core.Bool.{Bool, true, false, _&&_}
+use mathlib.Core.Path.{_≡_, refl}
+use mathlib.Core.Bool.{Bool, true, false}
 use mathlib.Core.List.{List, [], _++_}
 use borrow.Author.Tests.{le-leb, lt-leb, leb-true}
 use lib.Dec.{leb}
@@ -12,8 +12,7 @@ use Rattle.model.proofs.Lists.{and-true, and-false}
 use Rattle.model.proofs.Storing.{stored-holds}
 use Rattle.lines.specs.Text.{codes}
 use Rattle.lines.specs.Book.{maxOutput}
-use Rattle.lines.specs.Said.{unread, roomy, wordsOf, startOf, Begun}
-use Rattle.lines.specs.declared.said.Start.{Start}
+use Rattle.lines.specs.Said.{unread, roomy, Begun}
 use Rattle.lines.specs.declared.said.Start.the-variants.{Stop, Answer}
 
 -- nothing stands at the front, and all is as it was

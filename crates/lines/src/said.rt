@@ -1,5 +1,4 @@
 // What a program says, and when it says nothing: the rule for an input that could not be read, and for room that is too small.
-ghost use mathlib.Core.Path.{_≡_};
 ghost use Rattle.lines.specs.Said.{Begun};
 
 // The room that every output has.

@@ -1,7 +1,6 @@
 -- The three demands hold. Assumes nothing.
 use Prim.Native.Nat.{ℕ}
 use mathlib.Core.Path.{_≡_, refl, ap, _∙_}
-use mathlib.Core.Bool.{true}
 use mathlib.Core.List.{List, [], _∷_, map}
 use Rattle.model.specs.Outcome.{Outcome, refused}
 use Rattle.model.specs.Post.{docs}

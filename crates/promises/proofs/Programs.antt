@@ -9,7 +9,6 @@ use lib.ListN.{length, take, drop, replicate, length-map, length-replicate}
 use lib.Seq.{take-at}
 use Rattle.model.specs.Limits.{maxDocid, maxK}
 use Rattle.model.specs.Outcome.{Outcome, refused, done, andThen}
-use Rattle.model.proofs.Lists.{split}
 use Rattle.shelf.specs.Check.{judged}
 use Rattle.rank.specs.Rank.{Hit}
 use Rattle.rank.specs.Match.{anyList}

@@ -2,7 +2,7 @@
 -- every input: `asked`, `checked`, `found`, `readList`, `writeList`, `edited`, `converted`, `rankAll` and `searched`, and `reported` and `checkedText` of the programs. Assumes nothing.
 use Prim.Native.Nat.{ℕ, _^_, _≤_, _<_}
 use mathlib.Core.Path.{_≡_}
-use mathlib.Core.Bool.{Bool, true}
+use mathlib.Core.Bool.{Bool}
 use mathlib.Core.Logic.{_↔_}
 use mathlib.Core.List.{List, [], map}
 use lib.ListN.{length}

@@ -1,12 +1,12 @@
 -- `console::call::judge` meets its contract. A signed number is tested as the machine reads it back from its bits, which is the number. Assumes nothing.
-use mathlib.Core.Path.{_≡_, refl, sym, ap, subst, _∙_}
+use mathlib.Core.Path.{_≡_, sym, ap, _∙_}
 use lib.IntN.{ℤ, pos}
 use mir.Syntax.{w32, w64}
 use mir.Val.{toZ, ofZ}
 use mir.Facts.{toZ-ofZ, fits-natAbs, sfits-toZ, fits-ofZ}
 use Rattle.console.specs.declared.call.Call.{Call}
 use Rattle.console.specs.declared.call.Call.the-variants.{Again, Failed}
-use Rattle.console.specs.Calls.{callOf, errorOf}
+use Rattle.console.specs.Calls.{callOf}
 use Rattle.console.proofs.Judged.{above-zero, judge-less, judge-most, judge-error, judge-end, again, fails}
 use Rattle.console.proofs.call.judge.Statement.{statement}
 use Rattle.console.proofs.call.judge.Tie as tie

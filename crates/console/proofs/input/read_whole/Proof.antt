@@ -3,7 +3,6 @@
 use native.Mathlib.Omega.{arith}
 use Prim.Native.Nat.{ℕ, _+_, _-_, _≤_}
 use mathlib.Core.Path.{_≡_, subst}
-use denote.Ref.{now}
 use lib.ListN.{length}
 use borrow.Author.Needs.{needs}
 use Rattle.console.specs.declared.call.Next.the-variants.{On, Over}
