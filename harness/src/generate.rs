@@ -127,7 +127,7 @@ pub fn damage(rng: &mut Rng, bytes: &[u8]) -> Vec<u8> {
     let mut out = bytes.to_vec();
     let starts = field_starts(bytes);
     if starts.is_empty() {
-        return vec![rng.next() as u8; rng.within(1, 9)];
+        return vec![rng.draw() as u8; rng.within(1, 9)];
     }
     let at = rng.within(0, out.len() - 1);
     let field = rng.pick(&starts);
@@ -136,7 +136,7 @@ pub fn damage(rng: &mut Rng, bytes: &[u8]) -> Vec<u8> {
         1 => out[at] ^= 1 << rng.within(0, 7),
         2 => out[at] = rng.pick(&[0, 1, 127, 128, 255]),
         3 => out.truncate(at),
-        4 => out.insert(at, rng.next() as u8),
+        4 => out.insert(at, rng.draw() as u8),
         5 => {
             out.remove(at);
         }
@@ -197,7 +197,7 @@ fn swapped(bytes: &[u8], a: usize, b: usize) -> Vec<u8> {
 
 /// Bytes of any kind, mostly those that tags and lengths are made of.
 pub fn noise(rng: &mut Rng) -> Vec<u8> {
-    let byte = |rng: &mut Rng| if rng.once_in(4) { rng.next() as u8 } else { rng.pick(&[0, 1, 2, 3, 4, 5, 9, 0x20, 0x21]) };
+    let byte = |rng: &mut Rng| if rng.once_in(4) { rng.draw() as u8 } else { rng.pick(&[0, 1, 2, 3, 4, 5, 9, 0x20, 0x21]) };
     (0..rng.within(0, 60)).map(|_| byte(rng)).collect()
 }
 
@@ -205,7 +205,7 @@ pub fn noise(rng: &mut Rng) -> Vec<u8> {
 pub fn query(rng: &mut Rng, terms: &[u32]) -> Vec<u8> {
     let mut asked: Vec<(u32, u8)> = Vec::new();
     for _ in 0..rng.within(1, 8) {
-        let term = if terms.is_empty() || rng.once_in(5) { rng.next() as u32 } else { rng.pick(terms) };
+        let term = if terms.is_empty() || rng.once_in(5) { rng.draw() as u32 } else { rng.pick(terms) };
         if asked.iter().all(|a| a.0 != term) {
             asked.push((term, rng.pick(&[1, 1, 2, 7, 255])));
         }

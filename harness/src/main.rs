@@ -120,10 +120,10 @@ fn program_input(rng: &mut Rng) -> Vec<u8> {
 
 /// An edit of a term and a sheet that a shelf may hold, now and then out of range.
 fn an_edit(rng: &mut Rng, terms: &[u32]) -> Edit {
-    let term = if terms.is_empty() || rng.once_in(4) { rng.next() as u32 % 50 } else { rng.pick(terms) };
-    let docid = if rng.once_in(20) { rng.pick(&[0, 1, 16_777_215, 16_777_216]) } else { 1 + rng.next() as u32 % 300 };
-    let score = if rng.once_in(20) { rng.pick(&[0, 65_535]) } else { 1 + rng.next() as u16 % 900 };
-    match rng.next() % 4 {
+    let term = if terms.is_empty() || rng.once_in(4) { rng.draw() as u32 % 50 } else { rng.pick(terms) };
+    let docid = if rng.once_in(20) { rng.pick(&[0, 1, 16_777_215, 16_777_216]) } else { 1 + rng.draw() as u32 % 300 };
+    let score = if rng.once_in(20) { rng.pick(&[0, 65_535]) } else { 1 + rng.draw() as u16 % 900 };
+    match rng.draw() % 4 {
         0 => Edit::Clear(term, docid),
         1 => Edit::Withdraw(docid),
         _ => Edit::Set(term, docid, score),
@@ -132,7 +132,7 @@ fn an_edit(rng: &mut Rng, terms: &[u32]) -> Edit {
 
 /// A term that a shelf has, or now and then one that it has not.
 fn a_term(rng: &mut Rng, terms: &[u32]) -> u32 {
-    if terms.is_empty() || rng.once_in(8) { rng.next() as u32 % 50 } else { rng.pick(terms) }
+    if terms.is_empty() || rng.once_in(8) { rng.draw() as u32 % 50 } else { rng.pick(terms) }
 }
 
 /// A list to the other layout and back, into room enough or too short: it is as it was, and a search of either shelf tells the same.
@@ -207,7 +207,7 @@ fn one_round(t: &mut Tally, rng: &mut Rng) {
 
     let (docids, scores) = generate::runs(rng);
     let room = rng.pick(&[0, 25, 400, 30_000, 60_000]);
-    let term = rng.next() as u32;
+    let term = rng.draw() as u32;
     for layout in Layout::BOTH {
         compare::write_list(t, layout, term, &docids, &scores, room);
     }
