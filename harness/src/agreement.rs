@@ -64,19 +64,46 @@ fn the_measures_searches_agree_with_the_reference() {
         let mut shelf = generate::shelf(rng, size, spread);
         let terms: Vec<u32> = walk(&shelf).expect("sound").iter().map(|l| l.term).collect();
         for _ in 0..3 {
-            let query = generate::query(rng, &terms);
-            assert_eq!(tuned::search::rank_all(&query, &shelf, 100), rank_all(&query, &shelf, 100).map_err(pair), "seed {seed}");
-            let found = tuned::search::search(&query, &shelf, 100).map(|f| (f.hits, f.book, f.opened, f.blocks));
-            let reference = search(&query, &shelf, Room { rows: 100, book: 1025 });
-            let reference = reference.map(|f| (f.hits, f.book, f.opened, f.blocks)).map_err(|s| pair(s.refusal));
-            assert_eq!(found, reference, "seed {seed}");
+            let query = if rng.once_in(8) { generate::wrong_query(rng, &terms) } else { generate::query(rng, &terms) };
+            let rows = rng.pick(&[100, 100, 100, 5]);
+            let ranked = rank_all(&query, &shelf, rows).map_err(pair);
+            let (mut docids, mut scores) = (vec![0; rows], vec![0; rows]);
+            let hits = tuned::rank::rank_all(&query, &shelf, &mut docids, &mut scores).map(|n| together(&docids[..n], &scores[..n]));
+            assert_eq!(hits, ranked, "seed {seed}");
+            the_pruned_agree(&query, &shelf, rows, rng.pick(&[1025, 1025, 20, 3]), seed);
             if check(&shelf).is_ok() {
-                let skipping = tuned::skipping::search(&query, &shelf, 100).map(|f| f.hits);
-                assert_eq!(skipping, rank_all(&query, &shelf, 100).map_err(pair), "seed {seed}");
+                let skipped = tuned::skipping::search(&query, &shelf, &mut docids, &mut scores);
+                assert_eq!(skipped.map(|found| together(&docids[..found.hits], &scores[..found.hits])), ranked, "seed {seed}");
             }
-            shelf = generate::damage(rng, &shelf);
+            shelf = if walk(&shelf).is_ok() && rng.once_in(2) { generate::damage_body(rng, &shelf) } else { generate::damage(rng, &shelf) };
         }
     }
+}
+
+fn together(docids: &[u32], scores: &[u32]) -> Vec<(u32, u32)> {
+    docids.iter().copied().zip(scores.iter().copied()).collect()
+}
+
+/// Hits, book and counts, into runs that may be too short; what is not to be touched is as it was.
+fn the_pruned_agree(query: &[u8], shelf: &[u8], rows: usize, room: usize, seed: u64) {
+    let (mut docids, mut scores) = (vec![0; rows], vec![0; rows]);
+    let (mut firsts, mut ceilings, mut marks) = (vec![77; room], vec![77; room], vec![77; room]);
+    let mut book = tuned::pruned::Book::new(&mut firsts, &mut ceilings, &mut marks);
+    let found = tuned::pruned::search(query, shelf, &mut docids, &mut scores, &mut book);
+    let filled = book.intervals;
+    let counts = found.map(|f| (together(&docids[..f.hits], &scores[..f.hits]), f.opened, f.blocks));
+    let reference = search(query, shelf, Room { rows, book: room });
+    let (wanted, book) = match reference {
+        Ok(f) => (Ok((f.hits, f.opened, f.blocks)), f.book),
+        Err(stopped) => (Err(pair(stopped.refusal)), stopped.book.unwrap_or_default()),
+    };
+    if wanted.is_err() {
+        assert!(docids.iter().chain(&scores).all(|&row| row == 0), "seed {seed}");
+    }
+    assert_eq!(counts, wanted, "seed {seed}");
+    assert_eq!((&firsts[..filled], &ceilings[..filled], &marks[..filled]), (&book.firsts[..], &book.ceilings[..], &book.marks[..]), "seed {seed}");
+    assert!(firsts[filled..].iter().chain(&ceilings[filled..]).all(|&row| row == 77), "seed {seed}");
+    assert!(marks[filled..].iter().all(|&row| row == 77), "seed {seed}");
 }
 
 #[test]
@@ -91,6 +118,8 @@ fn the_measures_edits_agree_with_the_reference() {
             let mut out = vec![0; room];
             let set = tuned::edit::set(&shelf, term, docid, score, &mut out).map(|n| out[..n].to_vec());
             assert_eq!(set, edit(Edit::Set(term, docid, score), &shelf, room).map_err(pair), "seed {seed}");
+            let cleared = tuned::edit::clear(&shelf, term, docid, &mut out).map(|n| out[..n].to_vec());
+            assert_eq!(cleared, edit(Edit::Clear(term, docid), &shelf, room).map_err(pair), "seed {seed}");
             let withdrawn = tuned::edit::withdraw(&shelf, docid, &mut out).map(|n| out[..n].to_vec());
             assert_eq!(withdrawn, edit(Edit::Withdraw(docid), &shelf, room).map_err(pair), "seed {seed}");
             let converted = tuned::convert::convert(&shelf, term, &mut out).map(|n| out[..n].to_vec());

@@ -1,23 +1,66 @@
-//! Measuring: the best of several short runs, taken in turn, so that a busy machine troubles all alike. Figures are ratios within one run.
+//! Measuring the archive beside the same rules in Rust written for speed, in one process, on the same shelves.
 
-pub mod searching;
-pub mod strips;
+pub mod report;
+pub mod searches;
+pub mod whole;
+pub mod workload;
 
+use std::iter::Sum;
+use std::ops::{Add, Div};
 use std::time::Instant;
 
-/// Nanoseconds of one call of each, the best of several turns.
-pub fn best_of(turns: usize, calls: &mut [&mut dyn FnMut()]) -> Vec<f64> {
-    let repeats: Vec<u32> = calls.iter_mut().map(|call| repeats_for(call)).collect();
-    let mut best = vec![f64::INFINITY; calls.len()];
-    for _ in 0..turns {
-        for (i, call) in calls.iter_mut().enumerate() {
-            best[i] = best[i].min(time(call, repeats[i]));
-        }
-    }
-    best
+/// How often each call is timed, all in turn, so that a busy machine troubles all alike.
+pub const ROUNDS: usize = 15;
+
+/// A sample is as many calls as take about so long: short enough that many samples are not interrupted.
+const SAMPLE_NS: f64 = 30_000.0;
+
+/// Nanoseconds of one call: the best of the rounds, and the median.
+#[derive(Clone, Copy, Debug, Default)]
+pub struct Time {
+    pub best: f64,
+    pub median: f64,
 }
 
-fn time(call: &mut dyn FnMut(), repeats: u32) -> f64 {
+impl Add for Time {
+    type Output = Time;
+    fn add(self, other: Time) -> Time {
+        Time { best: self.best + other.best, median: self.median + other.median }
+    }
+}
+
+impl Div<f64> for Time {
+    type Output = Time;
+    fn div(self, n: f64) -> Time {
+        Time { best: self.best / n, median: self.median / n }
+    }
+}
+
+impl Sum for Time {
+    fn sum<I: Iterator<Item = Time>>(times: I) -> Time {
+        times.fold(Time::default(), Add::add)
+    }
+}
+
+/// The times of some calls.
+pub fn times<const N: usize>(mut calls: [&mut dyn FnMut(); N]) -> [Time; N] {
+    let repeats = calls.each_mut().map(|call| {
+        let once = sample(call, 1).min(sample(call, 1));
+        (SAMPLE_NS / once.max(1.0)).ceil() as u32
+    });
+    let mut samples = [const { Vec::new() }; N];
+    for _ in 0..ROUNDS {
+        for ((call, of_call), &repeats) in calls.iter_mut().zip(&mut samples).zip(&repeats) {
+            of_call.push(sample(call, repeats));
+        }
+    }
+    samples.map(|mut of_call| {
+        of_call.sort_by(f64::total_cmp);
+        Time { best: of_call[0], median: of_call[ROUNDS / 2] }
+    })
+}
+
+fn sample(call: &mut dyn FnMut(), repeats: u32) -> f64 {
     let start = Instant::now();
     for _ in 0..repeats {
         call();
@@ -25,8 +68,8 @@ fn time(call: &mut dyn FnMut(), repeats: u32) -> f64 {
     start.elapsed().as_nanos() as f64 / f64::from(repeats)
 }
 
-/// So many calls that they take about two milliseconds.
-fn repeats_for(call: &mut dyn FnMut()) -> u32 {
-    let once = time(call, 1).max(1.0);
-    (2_000_000.0 / once).clamp(1.0, 100_000.0) as u32
+/// The geometric mean of some ratios.
+pub fn mean(ratios: impl IntoIterator<Item = f64>) -> f64 {
+    let (sum, n) = ratios.into_iter().fold((0.0, 0.0), |(sum, n), ratio| (sum + ratio.ln(), n + 1.0));
+    (sum / n).exp()
 }

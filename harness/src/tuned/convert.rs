@@ -1,49 +1,80 @@
 //! The converter: the shelf copied as it stands, then each body of the list written over at its place, its bytes moved and no number worked out.
 
-use super::edit::lists;
-use super::{check, one_list, strip_parts, Refusal};
+use super::walk::blocks_of;
+use super::{check_lists, Refusal};
 
 /// In the order 6/7, 8, 12, 9.
 pub fn convert(shelf: &[u8], term: u32, out: &mut [u8]) -> Result<usize, Refusal> {
-    check(shelf)?;
-    let list = lists(shelf).find(|list| list.term == term).ok_or((12, 0))?;
+    let mut found = None;
+    check_lists(shelf, |list| {
+        if list.term == term {
+            found = Some(*list);
+        }
+    })?;
+    let list = found.ok_or((12, 0))?;
     let out = out.get_mut(..shelf.len()).ok_or((9, 0))?;
     out.copy_from_slice(shelf);
-    one_list(shelf, list.at, 0, |summary, at, body| {
-        let (tag, turned) = (out[at], &mut out[at + 3..at + 3 + body.len()]);
-        if summary.strip { to_pairs(body, summary.count, turned) } else { to_strip(body, summary.count, turned) }
-        out[at] = tag ^ 3 ^ 4;
-    })?;
+    for block in blocks_of(shelf, &list) {
+        let (at, body) = (block.body_at(), block.body(shelf));
+        out[at] = if block.strip { 3 } else { 4 };
+        let turned = &mut out[at + 3..][..body.len()];
+        let gap_bytes = body.len() - 2 * usize::from(block.count);
+        let short = gap_bytes + 1 == block.count.into();
+        match (block.strip, short) {
+            (false, true) => short_to_strip(body, turned),
+            (false, false) => to_strip(body, gap_bytes, turned),
+            (true, true) => short_to_pairs(body, turned),
+            (true, false) => to_pairs(body, gap_bytes, turned),
+        }
+    }
     Ok(shelf.len())
 }
 
-/// How many bytes the gap number takes with which the bytes begin.
-fn gap_len(bytes: &[u8]) -> usize {
-    1 + bytes.iter().position(|&b| b < 0x80).unwrap_or(0)
+/// All gap numbers of one byte: every byte's new place is known beforehand.
+fn short_to_strip(body: &[u8], out: &mut [u8]) {
+    let (gaps, scores) = out.split_at_mut((body.len() - 2) / 3);
+    scores[..2].copy_from_slice(&body[..2]);
+    for (&[gap, s0, s1], (to, score)) in body[2..].as_chunks().0.iter().zip(gaps.iter_mut().zip(scores[2..].as_chunks_mut().0)) {
+        (*to, *score) = (gap, [s0, s1]);
+    }
 }
 
-fn to_strip(body: &[u8], count: u8, out: &mut [u8]) {
-    let (gaps, scores) = out.split_at_mut(body.len() - 2 * usize::from(count));
-    let (mut from, mut to) = (0, 0);
-    for (i, score) in scores.chunks_exact_mut(2).enumerate() {
-        if i > 0 {
-            let taken = gap_len(&body[from..]);
-            gaps[to..to + taken].copy_from_slice(&body[from..from + taken]);
-            (from, to) = (from + taken, to + taken);
+fn short_to_pairs(body: &[u8], out: &mut [u8]) {
+    let (gaps, scores) = body.split_at((body.len() - 2) / 3);
+    out[..2].copy_from_slice(&scores[..2]);
+    for (to, (&gap, &[s0, s1])) in out[2..].as_chunks_mut().0.iter_mut().zip(gaps.iter().zip(scores[2..].as_chunks().0)) {
+        *to = [gap, s0, s1];
+    }
+}
+
+fn to_strip(body: &[u8], gap_bytes: usize, out: &mut [u8]) {
+    let (gaps, scores) = out.split_at_mut(gap_bytes);
+    scores[..2].copy_from_slice(&body[..2]);
+    let (mut from, mut to) = (2, 0);
+    for score in &mut scores.as_chunks_mut::<2>().0[1..] {
+        loop {
+            gaps[to] = body[from];
+            (from, to) = (from + 1, to + 1);
+            if body[from - 1] < 0x80 {
+                break;
+            }
         }
         score.copy_from_slice(&body[from..from + 2]);
         from += 2;
     }
 }
 
-fn to_pairs(body: &[u8], count: u8, out: &mut [u8]) {
-    let Some((mut gaps, scores)) = strip_parts(body, count) else { return };
-    let mut to = 0;
-    for (i, score) in scores.chunks_exact(2).enumerate() {
-        if i > 0 {
-            let (number, after) = gaps.split_at(gap_len(gaps));
-            out[to..to + number.len()].copy_from_slice(number);
-            (gaps, to) = (after, to + number.len());
+fn to_pairs(body: &[u8], gap_bytes: usize, out: &mut [u8]) {
+    let (gaps, scores) = body.split_at(gap_bytes);
+    out[..2].copy_from_slice(&scores[..2]);
+    let (mut from, mut to) = (0, 2);
+    for score in &scores.as_chunks::<2>().0[1..] {
+        loop {
+            out[to] = gaps[from];
+            (from, to) = (from + 1, to + 1);
+            if gaps[from - 1] < 0x80 {
+                break;
+            }
         }
         out[to..to + 2].copy_from_slice(score);
         to += 2;

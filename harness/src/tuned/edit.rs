@@ -1,172 +1,160 @@
-//! Set and withdraw, with no allocation: the shelf is checked, and a list is read only where it changes.
+//! Set, clear and withdraw: the shelf is checked, and a list is read only where it changes.
 
-use super::list::{list_size, write_list};
-use super::{check, one_list, right_body, Refusal, Summary};
+use super::body::{is_right, read_body};
+use super::list::{list_size, put_list, Postings};
+use super::walk::{Block, List};
+use super::{check_lists, check_with, Refusal};
 use crate::reference::{Layout, MAX_DOCID, MAX_LISTS, MAX_POSTINGS, MAX_SHELF};
+use std::cell::Cell;
 
-/// The postings of one list in its layout, and room for one more than a list may have.
-struct Run {
+/// A list as it is to be: the bytes it takes the place of, and its postings.
+struct Changed {
+    list: List,
     layout: Layout,
-    docids: [u32; MAX_POSTINGS + 1],
-    scores: [u16; MAX_POSTINGS + 1],
-    held: usize,
+    postings: Postings,
 }
 
-impl Run {
-    fn empty() -> Run {
-        Run { layout: Layout::Pairs, docids: [0; MAX_POSTINGS + 1], scores: [0; MAX_POSTINGS + 1], held: 0 }
+impl Changed {
+    /// A list of a sound shelf, with room for another posting.
+    fn read(shelf: &[u8], list: &List) -> Changed {
+        let layout = if list.strip(shelf) { Layout::Strip } else { Layout::Pairs };
+        Changed { list: *list, layout, postings: Postings::read(shelf, list, 1).unwrap_or_default() }
     }
 
-    fn read(&mut self, shelf: &[u8], list: &List) {
-        self.held = 0;
-        blocks_of(shelf, list, |summary, body| {
-            self.layout = if summary.strip { Layout::Strip } else { Layout::Pairs };
-            right_body(body, summary, |docid, score| {
-                self.docids[self.held] = docid;
-                self.scores[self.held] = score;
-                self.held += 1;
-            });
-        });
-    }
-
-    fn docids(&self) -> &[u32] {
-        &self.docids[..self.held]
-    }
-
-    fn scores(&self) -> &[u16] {
-        &self.scores[..self.held]
+    /// A list that is not there yet.
+    fn new(term: u32, at: usize) -> Changed {
+        Changed { list: List { term, at, end: at, blocks: 0 }, layout: Layout::Pairs, postings: Postings::default() }
     }
 
     fn put(&mut self, docid: u32, score: u16) {
-        match self.docids().binary_search(&docid) {
-            Ok(i) => self.scores[i] = score,
+        let Postings { docids, scores } = &mut self.postings;
+        match docids.binary_search(&docid) {
+            Ok(i) => scores[i] = score,
             Err(i) => {
-                self.docids.copy_within(i..self.held, i + 1);
-                self.scores.copy_within(i..self.held, i + 1);
-                (self.docids[i], self.scores[i]) = (docid, score);
-                self.held += 1;
+                docids.insert(i, docid);
+                scores.insert(i, score);
             }
         }
     }
 
-    fn remove(&mut self, docid: u32) {
-        if let Ok(i) = self.docids().binary_search(&docid) {
-            self.docids.copy_within(i + 1..self.held, i);
-            self.scores.copy_within(i + 1..self.held, i);
-            self.held -= 1;
+    /// Whether the docid was there.
+    fn remove(&mut self, docid: u32) -> bool {
+        let Ok(i) = self.postings.docids.binary_search(&docid) else { return false };
+        self.postings.docids.remove(i);
+        self.postings.scores.remove(i);
+        true
+    }
+
+    /// The bytes it takes; a list left without postings goes.
+    fn size(&self) -> usize {
+        if self.postings.docids.is_empty() {
+            0
+        } else {
+            list_size(&self.postings.docids)
         }
     }
 
-    /// How many bytes the list takes; none where it has no posting.
-    fn size(&self) -> Result<usize, Refusal> {
-        if self.held == 0 { Ok(0) } else { list_size(self.docids(), self.scores()) }
-    }
-
-    fn write(&self, term: u32, out: &mut [u8]) -> Result<usize, Refusal> {
-        if self.held == 0 { Ok(0) } else { write_list(self.layout, term, self.docids(), self.scores(), out) }
-    }
-}
-
-pub(super) struct List {
-    pub(super) term: u32,
-    pub(super) at: usize,
-    next: usize,
-}
-
-/// The lists of a sound shelf, in order.
-pub(super) fn lists(shelf: &[u8]) -> impl Iterator<Item = List> + '_ {
-    let mut at = 0;
-    std::iter::from_fn(move || {
-        if at == shelf.len() {
-            return None;
+    fn write(&self, out: &mut [u8]) -> usize {
+        let Postings { docids, scores } = &self.postings;
+        if docids.is_empty() {
+            0
+        } else {
+            put_list(self.layout, self.list.term, docids, scores, out)
         }
-        let (term, next) = one_list(shelf, at, 0, |_, _, _| ()).ok()?;
-        let list = List { term, at, next };
-        at = next;
-        Some(list)
-    })
+    }
 }
 
-fn blocks_of<'a>(shelf: &'a [u8], list: &List, mut block: impl FnMut(Summary, &'a [u8])) {
-    let read = one_list(shelf, list.at, 0, |summary, _, body| block(summary, body));
-    debug_assert!(read.is_ok());
-}
-
-/// Only the block that has the docid between its least and its greatest is read.
-fn holds(shelf: &[u8], list: &List, docid: u32) -> bool {
-    let mut held = false;
-    blocks_of(shelf, list, |summary, body| {
-        if summary.least <= docid && docid <= summary.greatest {
-            right_body(body, summary, |d, _| held |= d == docid);
-        }
-    });
-    held
-}
-
-fn fits(size: usize, out: &[u8]) -> Result<(), Refusal> {
+/// Writes a shelf with some lists changed, in their order, the others copied: 11, 9.
+fn write_shelf(shelf: &[u8], changed: &[Changed], out: &mut [u8]) -> Result<usize, Refusal> {
+    let size = changed.iter().fold(shelf.len(), |size, c| size - (c.list.end - c.list.at) + c.size());
     if size > MAX_SHELF {
         return Err((11, 0));
     }
-    if size > out.len() {
-        return Err((9, 0));
+    let out = out.get_mut(..size).ok_or((9, 0))?;
+    let (mut from, mut to) = (0, 0);
+    for one in changed {
+        let kept = &shelf[from..one.list.at];
+        out[to..to + kept.len()].copy_from_slice(kept);
+        to += kept.len();
+        to += one.write(&mut out[to..]);
+        from = one.list.end;
     }
-    Ok(())
+    out[to..].copy_from_slice(&shelf[from..]);
+    Ok(size)
+}
+
+fn in_range(docid: u32) -> Result<(), Refusal> {
+    if (1..=MAX_DOCID).contains(&docid) {
+        Ok(())
+    } else {
+        Err((10, 0))
+    }
 }
 
 /// In the order 10, 6/7, 8, 11, 9.
 pub fn set(shelf: &[u8], term: u32, docid: u32, score: u16, out: &mut [u8]) -> Result<usize, Refusal> {
-    if !(1..=MAX_DOCID).contains(&docid) || score == 0 {
+    in_range(docid)?;
+    if score == 0 {
         return Err((10, 0));
     }
-    check(shelf)?;
-    let seat = lists(shelf).find(|list| list.term >= term).unwrap_or(List { term, at: shelf.len(), next: shelf.len() });
-    let mut run = Run::empty();
-    let mut next = seat.at;
-    if seat.term == term && seat.at < seat.next {
-        run.read(shelf, &seat);
-        next = seat.next;
-    }
-    run.put(docid, score);
-    if run.held > MAX_POSTINGS || (next == seat.at && lists(shelf).count() == MAX_LISTS) {
+    let (mut lists, mut seat) = (0, None);
+    check_lists(shelf, |list| {
+        lists += 1;
+        if seat.is_none() && list.term >= term {
+            seat = Some(*list);
+        }
+    })?;
+    let mut changed = match seat {
+        Some(list) if list.term == term => Changed::read(shelf, &list),
+        _ if lists == MAX_LISTS => return Err((11, 0)),
+        _ => Changed::new(term, seat.map_or(shelf.len(), |list| list.at)),
+    };
+    changed.put(docid, score);
+    if changed.postings.docids.len() > MAX_POSTINGS {
         return Err((11, 0));
     }
-    let size = seat.at + run.size()? + shelf.len() - next;
-    fits(size, out)?;
-    out[..seat.at].copy_from_slice(&shelf[..seat.at]);
-    let past = seat.at + run.write(term, &mut out[seat.at..])?;
-    out[past..size].copy_from_slice(&shelf[next..]);
-    Ok(size)
+    write_shelf(shelf, &[changed], out)
 }
 
 /// In the order 10, 6/7, 8, 12, 11, 9.
-pub fn withdraw(shelf: &[u8], docid: u32, out: &mut [u8]) -> Result<usize, Refusal> {
-    if !(1..=MAX_DOCID).contains(&docid) {
-        return Err((10, 0));
-    }
-    check(shelf)?;
-    let mut run = Run::empty();
-    let mut size = shelf.len();
-    let mut held = false;
-    for list in lists(shelf).filter(|list| holds(shelf, list, docid)) {
-        held = true;
-        run.read(shelf, &list);
-        run.remove(docid);
-        size = size + run.size()? - (list.next - list.at);
-    }
-    if !held {
+pub fn clear(shelf: &[u8], term: u32, docid: u32, out: &mut [u8]) -> Result<usize, Refusal> {
+    in_range(docid)?;
+    let mut found = None;
+    check_lists(shelf, |list| {
+        if list.term == term {
+            found = Some(*list);
+        }
+    })?;
+    let mut changed = Changed::read(shelf, &found.ok_or((12, 0))?);
+    if !changed.remove(docid) {
         return Err((12, 0));
     }
-    fits(size, out)?;
-    let (mut from, mut at) = (0, 0);
-    for list in lists(shelf).filter(|list| holds(shelf, list, docid)) {
-        let kept = &shelf[from..list.at];
-        out[at..at + kept.len()].copy_from_slice(kept);
-        at += kept.len();
-        run.read(shelf, &list);
-        run.remove(docid);
-        at += run.write(list.term, &mut out[at..])?;
-        from = list.next;
+    write_shelf(shelf, &[changed], out)
+}
+
+/// In the order 10, 6/7, 8, 12, 11, 9. Which lists hold the docid is seen while their bodies are checked.
+pub fn withdraw(shelf: &[u8], docid: u32, out: &mut [u8]) -> Result<usize, Refusal> {
+    in_range(docid)?;
+    let mut holders = Vec::new();
+    let held = Cell::new(false);
+    let right = |block: &Block| {
+        if docid < block.least || block.greatest < docid {
+            return is_right(shelf, block);
+        }
+        let mut here = false;
+        let right = read_body(shelf, block, |_, posting, _| here |= posting == docid);
+        held.set(here);
+        right
+    };
+    check_with(shelf, right, |list| {
+        if held.take() {
+            holders.push(*list);
+        }
+    })?;
+    if holders.is_empty() {
+        return Err((12, 0));
     }
-    out[at..size].copy_from_slice(&shelf[from..]);
-    Ok(size)
+    let mut changed: Vec<Changed> = holders.iter().map(|list| Changed::read(shelf, list)).collect();
+    changed.iter_mut().for_each(|one| assert!(one.remove(docid)));
+    write_shelf(shelf, &changed, out)
 }

@@ -1,0 +1,134 @@
+//! A body read and judged in one pass. Scores are judged at the end, by the least and the greatest of them, and docids by the last: gaps are never 0.
+
+use super::walk::Block;
+
+/// Whether a body is right. Hands on its postings as they are read, each with its number in the block; what a wrong body handed on is of no use.
+///
+/// A gap number takes a byte at least, so a body that has only one byte for each takes one for each: then no byte need be looked at to know where the
+/// next posting begins, and the loop runs without a branch.
+#[inline(always)]
+pub(super) fn read_body(shelf: &[u8], block: &Block, put: impl FnMut(usize, u32, u16)) -> bool {
+    let (body, count) = (block.body(shelf), usize::from(block.count));
+    let Some(gap_bytes) = body.len().checked_sub(2 * count) else { return false };
+    match (block.strip, gap_bytes == count - 1) {
+        (false, true) => short_pairs(body, block, put),
+        (false, false) => long_pairs(body, block, put),
+        (true, true) => short_strip(body, gap_bytes, block, put),
+        (true, false) => long_strip(body, gap_bytes, block, put),
+    }
+}
+
+pub(super) fn is_right(shelf: &[u8], block: &Block) -> bool {
+    read_body(shelf, block, |_, _, _| ())
+}
+
+/// What is folded over the postings of a block.
+struct Seen {
+    docid: u64,
+    low: u16,
+    high: u16,
+}
+
+impl Seen {
+    #[inline(always)]
+    fn first(block: &Block, score: u16) -> Seen {
+        Seen { docid: block.least.into(), low: score, high: score }
+    }
+
+    #[inline(always)]
+    fn next(&mut self, less_one: u32, score: u16) {
+        self.docid += u64::from(less_one) + 1;
+        self.low = self.low.min(score);
+        self.high = self.high.max(score);
+    }
+
+    #[inline(always)]
+    fn fits(&self, block: &Block) -> bool {
+        (self.low > 0) & (self.high == block.top) & (self.docid == u64::from(block.greatest))
+    }
+}
+
+#[inline(always)]
+fn short_pairs(body: &[u8], block: &Block, mut put: impl FnMut(usize, u32, u16)) -> bool {
+    let Some((&first, rest)) = body.split_first_chunk() else { return false };
+    let first = u16::from_be_bytes(first);
+    put(0, block.least, first);
+    let mut seen = Seen::first(block, first);
+    let mut gaps = 0;
+    for (i, &[gap, s0, s1]) in rest.as_chunks().0.iter().enumerate() {
+        let score = u16::from_be_bytes([s0, s1]);
+        gaps |= gap;
+        seen.next(gap.into(), score);
+        put(i + 1, seen.docid as u32, score);
+    }
+    (gaps < 0x80) & seen.fits(block)
+}
+
+#[inline(always)]
+fn short_strip(body: &[u8], gap_bytes: usize, block: &Block, mut put: impl FnMut(usize, u32, u16)) -> bool {
+    let (gap_numbers, scores) = body.split_at(gap_bytes);
+    let Some((&first, scores)) = scores.split_first_chunk() else { return false };
+    let first = u16::from_be_bytes(first);
+    put(0, block.least, first);
+    let mut seen = Seen::first(block, first);
+    let mut gaps = 0;
+    for (i, (&gap, &score)) in gap_numbers.iter().zip(scores.as_chunks().0).enumerate() {
+        let score = u16::from_be_bytes(score);
+        gaps |= gap;
+        seen.next(gap.into(), score);
+        put(i + 1, seen.docid as u32, score);
+    }
+    (gaps < 0x80) & seen.fits(block)
+}
+
+/// A gap number, and the bytes after it.
+#[inline(always)]
+fn gap(bytes: &[u8]) -> Option<(u32, &[u8])> {
+    match *bytes {
+        [a, ref after @ ..] if a < 0x80 => Some((a.into(), after)),
+        [a, b, ref after @ ..] if b < 0x80 => (b > 0).then_some((u32::from(a & 0x7f) | u32::from(b) << 7, after)),
+        _ => long_gap(bytes),
+    }
+}
+
+/// A gap number of three or four bytes, and the bytes after it.
+fn long_gap(bytes: &[u8]) -> Option<(u32, &[u8])> {
+    let len = 1 + bytes.iter().take(4).position(|&b| b < 0x80)?;
+    let (number, after) = bytes.split_at(len);
+    let value = number.iter().rev().fold(0, |value, &b| value << 7 | u32::from(b & 0x7f));
+    (number[len - 1] > 0).then_some((value, after))
+}
+
+#[inline(always)]
+fn long_pairs(body: &[u8], block: &Block, mut put: impl FnMut(usize, u32, u16)) -> bool {
+    let Some((&first, mut rest)) = body.split_first_chunk() else { return false };
+    let first = u16::from_be_bytes(first);
+    put(0, block.least, first);
+    let mut seen = Seen::first(block, first);
+    for i in 1..block.count.into() {
+        let Some((less_one, after)) = gap(rest) else { return false };
+        let Some((&score, after)) = after.split_first_chunk() else { return false };
+        let score = u16::from_be_bytes(score);
+        rest = after;
+        seen.next(less_one, score);
+        put(i, seen.docid as u32, score);
+    }
+    rest.is_empty() & seen.fits(block)
+}
+
+#[inline(always)]
+fn long_strip(body: &[u8], gap_bytes: usize, block: &Block, mut put: impl FnMut(usize, u32, u16)) -> bool {
+    let (mut gaps, scores) = body.split_at(gap_bytes);
+    let Some((&first, scores)) = scores.split_first_chunk() else { return false };
+    let first = u16::from_be_bytes(first);
+    put(0, block.least, first);
+    let mut seen = Seen::first(block, first);
+    for (i, &score) in scores.as_chunks().0.iter().enumerate() {
+        let Some((less_one, after)) = gap(gaps) else { return false };
+        let score = u16::from_be_bytes(score);
+        gaps = after;
+        seen.next(less_one, score);
+        put(i + 1, seen.docid as u32, score);
+    }
+    gaps.is_empty() & seen.fits(block)
+}
