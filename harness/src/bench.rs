@@ -9,17 +9,27 @@ use std::iter::Sum;
 use std::ops::{Add, Div};
 use std::time::Instant;
 
-/// How often each call is timed, all in turn, so that a busy machine troubles all alike.
-pub const ROUNDS: usize = 15;
+/// All is measured so many times over, for a machine may be slow for seconds on end.
+pub const PASSES: usize = 3;
+
+/// How often each call is timed in a pass, all in turn, so that a busy machine troubles all alike.
+pub const ROUNDS: usize = 7;
 
 /// A sample is as many calls as take about so long: short enough that many samples are not interrupted.
 const SAMPLE_NS: f64 = 30_000.0;
 
-/// Nanoseconds of one call: the best of the rounds, and the median.
+/// Nanoseconds of one call: the best of all rounds, and the median of a pass, of the quietest one.
 #[derive(Clone, Copy, Debug, Default)]
 pub struct Time {
     pub best: f64,
     pub median: f64,
+}
+
+impl Time {
+    /// Of two passes.
+    pub fn better(self, other: Time) -> Time {
+        Time { best: self.best.min(other.best), median: self.median.min(other.median) }
+    }
 }
 
 impl Add for Time {

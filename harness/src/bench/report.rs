@@ -1,7 +1,7 @@
 //! The measured rows in print: first where it was measured and the means, then the rows that lose most, then all rows.
 
 use super::workload::{KINDS, KS, TERMS};
-use super::{mean, searches, whole, Time, ROUNDS};
+use super::{mean, searches, whole, Time, PASSES, ROUNDS};
 use std::fs;
 use std::process::Command;
 
@@ -11,11 +11,11 @@ const SIZES: [&str; 3] = ["1k", "64k", "1m"];
 pub fn machine() -> String {
     let cpu = fs::read_to_string("/proc/cpuinfo").unwrap_or_default();
     let model = cpu.lines().find_map(|line| line.strip_prefix("model name")).map_or("unknown", |rest| rest.trim_start_matches(['\t', ' ', ':']));
-    let cores = std::thread::available_parallelism().map_or(1, usize::from);
+    let cores = cpu.lines().filter(|line| line.starts_with("processor")).count();
     let rustc = Command::new("rustc").arg("--version").output().map_or(String::new(), |out| String::from_utf8_lossy(&out.stdout).trim().to_string());
     let load = fs::read_to_string("/proc/loadavg").unwrap_or_default();
     let load: String = load.split(' ').take(1).collect();
-    format!("{model}, {cores} cores, load {load}; {rustc}; each call {ROUNDS} times in turn with the others, by the wall clock")
+    format!("{model}, {cores} cores, load {load}; {rustc}; {PASSES} passes of {ROUNDS} rounds, by the wall clock")
 }
 
 fn print_means(label: &str, of_size: impl Fn(Option<&str>) -> f64) {

@@ -27,6 +27,18 @@ impl Row {
         format!("{}, {} t., k {}", self.kind.name, self.terms, self.k)
     }
 
+    /// The same row of two passes.
+    pub fn better(self, other: &Row) -> Row {
+        Row {
+            pruned: self.pruned.better(other.pruned),
+            rust_pruned: self.rust_pruned.better(other.rust_pruned),
+            all: self.all.better(other.all),
+            rust_all: self.rust_all.better(other.rust_all),
+            skipping: self.skipping.better(other.skipping),
+            ..self
+        }
+    }
+
     pub fn pruned_ratio(&self) -> f64 {
         self.pruned.best / self.rust_pruned.best
     }

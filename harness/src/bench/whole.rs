@@ -17,6 +17,11 @@ pub struct Row {
 }
 
 impl Row {
+    /// The same row of two passes.
+    pub fn better(self, other: &Row) -> Row {
+        Row { archive: self.archive.better(other.archive), rust: self.rust.better(other.rust), ..self }
+    }
+
     pub fn ratio(&self) -> f64 {
         self.archive.best / self.rust.best
     }

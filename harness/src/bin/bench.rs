@@ -1,17 +1,21 @@
 //! The archive beside the same rules in Rust written for speed: times of one call and their ratios.
 
 use harness::bench::workload::{Workload, KINDS};
-use harness::bench::{report, searches, whole};
+use harness::bench::{report, searches, whole, PASSES};
 
 fn main() {
     println!("{}", report::machine());
-    let (mut searched, mut others) = (Vec::new(), Vec::new());
-    for kind in &KINDS {
-        let work = Workload::new(kind);
+    let works = KINDS.each_ref().map(Workload::new);
+    for work in &works {
         let postings: usize = work.lists.values().map(Vec::len).sum();
-        println!("{:<18} {:>8} bytes {:>5} lists {:>7} postings", kind.name, work.shelf.len(), work.lists.len(), postings);
-        searched.extend(searches::rows(&work));
-        others.extend(whole::rows(&work));
+        println!("{:<18} {:>8} bytes {:>5} lists {:>7} postings", work.kind.name, work.shelf.len(), work.lists.len(), postings);
+    }
+    let pass = || (works.iter().flat_map(searches::rows).collect::<Vec<_>>(), works.iter().flat_map(whole::rows).collect::<Vec<_>>());
+    let (mut searched, mut others) = pass();
+    for _ in 1..PASSES {
+        let (searched_again, others_again) = pass();
+        searched = searched.into_iter().zip(&searched_again).map(|(row, again)| row.better(again)).collect();
+        others = others.into_iter().zip(&others_again).map(|(row, again)| row.better(again)).collect();
     }
     println!();
     report::means(&searched, &others);

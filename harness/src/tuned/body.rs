@@ -106,14 +106,29 @@ fn long_pairs(body: &[u8], block: &Block, mut put: impl FnMut(usize, u32, u16)) 
     put(0, block.least, first);
     let mut seen = Seen::first(block, first);
     for i in 1..block.count.into() {
-        let Some((less_one, after)) = gap(rest) else { return false };
-        let Some((&score, after)) = after.split_first_chunk() else { return false };
-        let score = u16::from_be_bytes(score);
+        let Some((less_one, score, after)) = pair(rest) else { return false };
         rest = after;
         seen.next(less_one, score);
         put(i, seen.docid as u32, score);
     }
     rest.is_empty() & seen.fits(block)
+}
+
+/// A gap number and a score, and the bytes after them. Five bytes are asked for at once: they hold any but a gap number of four.
+#[inline(always)]
+fn pair(bytes: &[u8]) -> Option<(u32, u16, &[u8])> {
+    match *bytes {
+        [a, s0, s1, _, _, ..] if a < 0x80 => Some((a.into(), u16::from_be_bytes([s0, s1]), &bytes[3..])),
+        [a, b, s0, s1, _, ..] if b < 0x80 => (b > 0).then_some((u32::from(a & 0x7f) | u32::from(b) << 7, u16::from_be_bytes([s0, s1]), &bytes[4..])),
+        [a, b, c, s0, s1, ..] if c < 0x80 => {
+            (c > 0).then_some((u32::from(a & 0x7f) | u32::from(b & 0x7f) << 7 | u32::from(c) << 14, u16::from_be_bytes([s0, s1]), &bytes[5..]))
+        }
+        _ => {
+            let (less_one, after) = gap(bytes)?;
+            let (&score, after) = after.split_first_chunk()?;
+            Some((less_one, u16::from_be_bytes(score), after))
+        }
+    }
 }
 
 #[inline(always)]
