@@ -3,18 +3,13 @@
 use super::walk::Block;
 
 /// Whether a body is right. Hands on its postings as they are read, each with its number in the block; what a wrong body handed on is of no use.
-///
-/// A gap number takes a byte at least, so a body that has only one byte for each takes one for each: then no byte need be looked at to know where the
-/// next posting begins, and the loop runs without a branch.
 #[inline(always)]
 pub(super) fn read_body(shelf: &[u8], block: &Block, put: impl FnMut(usize, u32, u16)) -> bool {
-    let (body, count) = (block.body(shelf), usize::from(block.count));
-    let Some(gap_bytes) = body.len().checked_sub(2 * count) else { return false };
-    match (block.strip, gap_bytes == count - 1) {
-        (false, true) => short_pairs(body, block, put),
-        (false, false) => long_pairs(body, block, put),
-        (true, true) => short_strip(body, gap_bytes, block, put),
-        (true, false) => long_strip(body, gap_bytes, block, put),
+    let body = block.body(shelf);
+    if block.strip {
+        read_strip(body, block, put)
+    } else {
+        read_pairs(body, block, put)
     }
 }
 
@@ -48,39 +43,6 @@ impl Seen {
     }
 }
 
-#[inline(always)]
-fn short_pairs(body: &[u8], block: &Block, mut put: impl FnMut(usize, u32, u16)) -> bool {
-    let Some((&first, rest)) = body.split_first_chunk() else { return false };
-    let first = u16::from_be_bytes(first);
-    put(0, block.least, first);
-    let mut seen = Seen::first(block, first);
-    let mut gaps = 0;
-    for (i, &[gap, s0, s1]) in rest.as_chunks().0.iter().enumerate() {
-        let score = u16::from_be_bytes([s0, s1]);
-        gaps |= gap;
-        seen.next(gap.into(), score);
-        put(i + 1, seen.docid as u32, score);
-    }
-    (gaps < 0x80) & seen.fits(block)
-}
-
-#[inline(always)]
-fn short_strip(body: &[u8], gap_bytes: usize, block: &Block, mut put: impl FnMut(usize, u32, u16)) -> bool {
-    let (gap_numbers, scores) = body.split_at(gap_bytes);
-    let Some((&first, scores)) = scores.split_first_chunk() else { return false };
-    let first = u16::from_be_bytes(first);
-    put(0, block.least, first);
-    let mut seen = Seen::first(block, first);
-    let mut gaps = 0;
-    for (i, (&gap, &score)) in gap_numbers.iter().zip(scores.as_chunks().0).enumerate() {
-        let score = u16::from_be_bytes(score);
-        gaps |= gap;
-        seen.next(gap.into(), score);
-        put(i + 1, seen.docid as u32, score);
-    }
-    (gaps < 0x80) & seen.fits(block)
-}
-
 /// A gap number, and the bytes after it.
 #[inline(always)]
 fn gap(bytes: &[u8]) -> Option<(u32, &[u8])> {
@@ -100,7 +62,7 @@ fn long_gap(bytes: &[u8]) -> Option<(u32, &[u8])> {
 }
 
 #[inline(always)]
-fn long_pairs(body: &[u8], block: &Block, mut put: impl FnMut(usize, u32, u16)) -> bool {
+fn read_pairs(body: &[u8], block: &Block, mut put: impl FnMut(usize, u32, u16)) -> bool {
     let Some((&first, mut rest)) = body.split_first_chunk() else { return false };
     let first = u16::from_be_bytes(first);
     put(0, block.least, first);
@@ -132,7 +94,8 @@ fn pair(bytes: &[u8]) -> Option<(u32, u16, &[u8])> {
 }
 
 #[inline(always)]
-fn long_strip(body: &[u8], gap_bytes: usize, block: &Block, mut put: impl FnMut(usize, u32, u16)) -> bool {
+fn read_strip(body: &[u8], block: &Block, mut put: impl FnMut(usize, u32, u16)) -> bool {
+    let Some(gap_bytes) = body.len().checked_sub(2 * usize::from(block.count)) else { return false };
     let (mut gaps, scores) = body.split_at(gap_bytes);
     let Some((&first, scores)) = scores.split_first_chunk() else { return false };
     let first = u16::from_be_bytes(first);

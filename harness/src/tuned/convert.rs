@@ -19,32 +19,13 @@ pub fn convert(shelf: &[u8], term: u32, out: &mut [u8]) -> Result<usize, Refusal
         out[at] = if block.strip { 3 } else { 4 };
         let turned = &mut out[at + 3..][..body.len()];
         let gap_bytes = body.len() - 2 * usize::from(block.count);
-        let short = gap_bytes + 1 == block.count.into();
-        match (block.strip, short) {
-            (false, true) => short_to_strip(body, turned),
-            (false, false) => to_strip(body, gap_bytes, turned),
-            (true, true) => short_to_pairs(body, turned),
-            (true, false) => to_pairs(body, gap_bytes, turned),
+        if block.strip {
+            to_pairs(body, gap_bytes, turned)
+        } else {
+            to_strip(body, gap_bytes, turned)
         }
     }
     Ok(shelf.len())
-}
-
-/// All gap numbers of one byte: every byte's new place is known beforehand.
-fn short_to_strip(body: &[u8], out: &mut [u8]) {
-    let (gaps, scores) = out.split_at_mut((body.len() - 2) / 3);
-    scores[..2].copy_from_slice(&body[..2]);
-    for (&[gap, s0, s1], (to, score)) in body[2..].as_chunks().0.iter().zip(gaps.iter_mut().zip(scores[2..].as_chunks_mut().0)) {
-        (*to, *score) = (gap, [s0, s1]);
-    }
-}
-
-fn short_to_pairs(body: &[u8], out: &mut [u8]) {
-    let (gaps, scores) = body.split_at((body.len() - 2) / 3);
-    out[..2].copy_from_slice(&scores[..2]);
-    for (to, (&gap, &[s0, s1])) in out[2..].as_chunks_mut().0.iter_mut().zip(gaps.iter().zip(scores[2..].as_chunks().0)) {
-        *to = [gap, s0, s1];
-    }
 }
 
 fn to_strip(body: &[u8], gap_bytes: usize, out: &mut [u8]) {
