@@ -7,8 +7,8 @@ use lib.ListN.{length, set, length-set}
 use Rattle.model.specs.Post.{docs, scores}
 use Rattle.model.specs.Runs.{Stored}
 use Rattle.model.proofs.Storing.{Rest, rest-start, rest-turn, rest_end}
-use Rattle.block.specs.Body.{fits, bodyRun, ReadsInto}
-use Rattle.block.specs.Cursor.{fresh, stepAt, postsAt, run_at}
+use Rattle.block.specs.Body.{fits, body_run, ReadsInto}
+use Rattle.block.specs.Cursor.{fresh, step_at, posts_at, run_at}
 use Rattle.block.specs.declared.summary.Summary.{Summary}
 use Rattle.block.specs.declared.cursor.Cursor.{Cursor}
 use Rattle.block.specs.declared.cursor.Step.TheVariants.{Posting}
@@ -21,7 +21,7 @@ stored_one l i x = record { past = refl; whole = refl }
 
 -- from the cursor b, at the place `at` of the runs ds₀ and ss₀, the loop has come to the cursor c, at i of the runs ds and ss
 pub record Filling (g w : List ℕ) (greatest top : ℕ) (b : Cursor) (at : ℕ) (ds₀ ss₀ ds ss : List ℕ) (c : Cursor) (last most i : ℕ) : Type 0 where
-  pub judge : fits greatest top 0 0 (postsAt g w b) ≡ fits greatest top last most (postsAt g w c)
+  pub judge : fits greatest top 0 0 (posts_at g w b) ≡ fits greatest top last most (posts_at g w c)
   pub docids : Rest ds₀ ds at i (docs (run_at g w b)) (docs (run_at g w c))
   pub scored : Rest ss₀ ss at i (scores (run_at g w b)) (scores (run_at g w c))
   pub roomy : i + c.left ≤ length ds
@@ -42,12 +42,12 @@ fill_start g w m b at ds ss e h k =
 
 module _ {g w : List ℕ} {greatest top : ℕ} {b : Cursor} {at : ℕ} {ds₀ ss₀ ds ss : List ℕ} {c : Cursor} {last most i : ℕ} where
   -- a posting is there: both runs have room for it, and the loop goes on past it
-  pub fill-room : (d x : ℕ) (next : Cursor) → stepAt g w c ≡ Posting d x next → Filling g w greatest top b at ds₀ ss₀ ds ss c last most i → (i < length ds) × (i < length ss)
+  pub fill-room : (d x : ℕ) (next : Cursor) → step_at g w c ≡ Posting d x next → Filling g w greatest top b at ds₀ ss₀ ds ss c last most i → (i < length ds) × (i < length ss)
   fill-room d x next e f =
       let o = step-onward g w c d x next e in
       (omega (arith, f.roomy, o.0), omega (arith, f.wide, o.0))
 
-  pub fill-turn : (d x : ℕ) (next : Cursor) → stepAt g w c ≡ Posting d x next → Filling g w greatest top b at ds₀ ss₀ ds ss c last most i →
+  pub fill-turn : (d x : ℕ) (next : Cursor) → step_at g w c ≡ Posting d x next → Filling g w greatest top b at ds₀ ss₀ ds ss c last most i →
       Filling g w greatest top b at ds₀ ss₀ (set ds i d) (set ss i x) next d (max most x) (i + 1)
   fill-turn d x next e f =
       let o = step-onward g w c d x next e in
@@ -63,9 +63,9 @@ module _ {g w : List ℕ} {greatest top : ℕ} {b : Cursor} {at : ℕ} {ds₀ ss
 -- nothing more is read of a body's two runs: the lent runs hold what was
 pub fill_done : (s : List ℕ) (m : Summary) (g w : List ℕ) → g ≡ front m s → w ≡ back m s →
     (b : Cursor) (at : ℕ) (ds₀ ss₀ ds ss : List ℕ) (c : Cursor) (last most i : ℕ) → b ≡ fresh m → run_at g w c ≡ [] →
-    Filling g w m.greatest m.top b at ds₀ ss₀ ds ss c last most i → ReadsInto m s at ds₀ ss₀ ds ss (fits m.greatest m.top last most (postsAt g w c))
+    Filling g w m.greatest m.top b at ds₀ ss₀ ds ss c last most i → ReadsInto m s at ds₀ ss₀ ds ss (fits m.greatest m.top last most (posts_at g w c))
 fill_done s m g w p q b at ds₀ ss₀ ds ss c last most i e n f =
-    let run : run_at g w b ≡ bodyRun m s = rw (p, q, e, run-fresh m s) in
+    let run : run_at g w b ≡ body_run m s = rw (p, q, e, run-fresh m s) in
     record {
       right = cc (right-fresh m s, e, p, q, f.judge);
       docids = (rest_end (ap docs n) f.docids).whole ∙ rw run;

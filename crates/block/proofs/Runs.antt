@@ -11,7 +11,7 @@ use Rattle.model.specs.Runs.{All}
 use Rattle.model.proofs.Lists.{split}
 use Rattle.wire.specs.Read.{Read, got, stopped, further}
 use Rattle.wire.specs.Gap.{gap, score}
-use Rattle.block.specs.Body.{edge, scoreIn, wide, withDoc, gapped, posting, read_on, readTo, bodyRun}
+use Rattle.block.specs.Body.{edge, score_in, wide, with_doc, gapped, posting, read_on, read_to, body_run}
 use Rattle.block.specs.declared.summary.Summary.{Summary}
 
 -- ---- a posting whose docid is d, or that follows docid d
@@ -21,11 +21,11 @@ abbrev Is : (ℕ → Type 0) → Read Post → Type 0
 Is P (got p k) = P p.doc
 Is P (stopped k) = Unit {0}
 
-with-is : (P : ℕ → Type 0) (strip : Bool) (d : ℕ) (r : Read ℕ) → P d → Is P (withDoc strip d r)
-with-is P true d (got w k) h = h
-with-is P false d (got w k) h = h
-with-is P true d (stopped k) h = tt
-with-is P false d (stopped k) h = tt
+with_is : (P : ℕ → Type 0) (strip : Bool) (d : ℕ) (r : Read ℕ) → P d → Is P (with_doc strip d r)
+with_is P true d (got w k) h = h
+with_is P false d (got w k) h = h
+with_is P true d (stopped k) h = tt
+with_is P false d (stopped k) h = tt
 
 further-is : (P : ℕ → Type 0) (k : ℕ) (r : Read Post) → Is P r → Is P (further k r)
 further-is P k (got p j) h = h
@@ -43,12 +43,12 @@ later-is strip greatest d g w = go (gap 4 g)
     go (stopped k) = tt
     go (got x k) =
         split (leb (d + 1 + x) greatest)
-        (λ e. rw e (further-is (Between d greatest) k (withDoc strip (d + 1 + x) (score (scoreIn strip k g w))) (with-is (Between d greatest) strip (d + 1 + x) (score (scoreIn strip k g w)) (omega arith, leb-true _ _ e))))
+        (λ e. rw e (further-is (Between d greatest) k (with_doc strip (d + 1 + x) (score (score_in strip k g w))) (with_is (Between d greatest) strip (d + 1 + x) (score (score_in strip k g w)) (omega arith, leb-true _ _ e))))
         (λ e. rw e tt)
 
 first-is : (P : ℕ → Type 0) (strip : Bool) (greatest d : ℕ) (g w : List ℕ) → P d → Is P (posting strip greatest true d g w)
 unfolding posting
-first-is P strip greatest d g w h = with-is P strip d (score (scoreIn strip 0 g w)) h
+first-is P strip greatest d g w h = with_is P strip d (score (score_in strip 0 g w)) h
 
 is-under : (d greatest : ℕ) (r : Read Post) → Is (Between d greatest) r → Is (λ e. e ≤ greatest) r
 is-under d greatest (got p k) h = h.1
@@ -67,45 +67,45 @@ posting-under strip greatest false d g w h = is-under d greatest (posting strip 
 abbrev pub Few : (greatest n : ℕ) → List Post → Type 0
 Few greatest n ps = (length ps ≤ n) × All (λ (p : Post). p.doc ≤ greatest) ps
 
-few : (strip : Bool) (greatest n : ℕ) (first : Bool) (d : ℕ) (g w : List ℕ) → d ≤ greatest → Few greatest n (readTo strip greatest n first d g w)
-unfolding readTo
+few : (strip : Bool) (greatest n : ℕ) (first : Bool) (d : ℕ) (g w : List ℕ) → d ≤ greatest → Few greatest n (read_to strip greatest n first d g w)
+unfolding read_to
 few strip greatest zero first d g w h = (omega arith, tt)
 few strip greatest (suc n) first d g w h =
     go (posting strip greatest first d g w) (posting-under strip greatest first d g w h) (λ e k l. few strip greatest n false e (drop k g) (drop (wide strip) w) l)
   where
-    go : (r : Read Post) → Is (λ e. e ≤ greatest) r → ((e k : ℕ) → e ≤ greatest → Few greatest n (readTo strip greatest n false e (drop k g) (drop (wide strip) w))) →
-        Few greatest (suc n) (read_on r (λ p k. readTo strip greatest n false p.doc (drop k g) (drop (wide strip) w)))
+    go : (r : Read Post) → Is (λ e. e ≤ greatest) r → ((e k : ℕ) → e ≤ greatest → Few greatest n (read_to strip greatest n false e (drop k g) (drop (wide strip) w))) →
+        Few greatest (suc n) (read_on r (λ p k. read_to strip greatest n false p.doc (drop k g) (drop (wide strip) w)))
     go (stopped k) u ih = (omega arith, tt)
     go (got p k) u ih = let i = ih p.doc k u in (omega (arith, i.0), (u, i.1))
 
-pub run-few : (m : Summary) (s : List ℕ) → m.least ≤ m.greatest → Few m.greatest m.count (bodyRun m s)
-unfolding bodyRun
+pub run-few : (m : Summary) (s : List ℕ) → m.least ≤ m.greatest → Few m.greatest m.count (body_run m s)
+unfolding body_run
 run-few m s h =
     let e = edge m.strip m.count s in
     few m.strip m.greatest m.count true m.least (take e s) (drop e s) h
 
-later-rises : (strip : Bool) (greatest n d : ℕ) (g w : List ℕ) → Rising d (readTo strip greatest n false d g w)
-unfolding readTo
+later-rises : (strip : Bool) (greatest n d : ℕ) (g w : List ℕ) → Rising d (read_to strip greatest n false d g w)
+unfolding read_to
 later-rises strip greatest zero d g w = tt
 later-rises strip greatest (suc n) d g w =
     go (posting strip greatest false d g w) (is-above d greatest (posting strip greatest false d g w) (later-is strip greatest d g w)) (λ e k. later-rises strip greatest n e (drop k g) (drop (wide strip) w))
   where
-    go : (r : Read Post) → Is (λ e. d < e) r → ((e k : ℕ) → Rising e (readTo strip greatest n false e (drop k g) (drop (wide strip) w))) →
-        Rising d (read_on r (λ p k. readTo strip greatest n false p.doc (drop k g) (drop (wide strip) w)))
+    go : (r : Read Post) → Is (λ e. d < e) r → ((e k : ℕ) → Rising e (read_to strip greatest n false e (drop k g) (drop (wide strip) w))) →
+        Rising d (read_on r (λ p k. read_to strip greatest n false p.doc (drop k g) (drop (wide strip) w)))
     go (stopped k) h ih = tt
     go (got p k) h ih = (h, ih p.doc k)
 
-first-rises : (strip : Bool) (greatest n e d : ℕ) (g w : List ℕ) → e < d → Rising e (readTo strip greatest n true d g w)
-unfolding readTo
+first-rises : (strip : Bool) (greatest n e d : ℕ) (g w : List ℕ) → e < d → Rising e (read_to strip greatest n true d g w)
+unfolding read_to
 first-rises strip greatest zero e d g w l = tt
 first-rises strip greatest (suc n) e d g w l = go (posting strip greatest true d g w) (first-is (λ x. e < x) strip greatest d g w l)
   where
-    go : (r : Read Post) → Is (λ x. e < x) r → Rising e (read_on r (λ p k. readTo strip greatest n false p.doc (drop k g) (drop (wide strip) w)))
+    go : (r : Read Post) → Is (λ x. e < x) r → Rising e (read_on r (λ p k. read_to strip greatest n false p.doc (drop k g) (drop (wide strip) w)))
     go (stopped k) h = tt
     go (got p k) h = (h, later-rises strip greatest n p.doc (drop k g) (drop (wide strip) w))
 
-pub run-rises : (e : ℕ) (m : Summary) (s : List ℕ) → e < m.least → Rising e (bodyRun m s)
-unfolding bodyRun
+pub run-rises : (e : ℕ) (m : Summary) (s : List ℕ) → e < m.least → Rising e (body_run m s)
+unfolding body_run
 run-rises e m s l =
     let x = edge m.strip m.count s in
     first-rises m.strip m.greatest m.count e m.least (take x s) (drop x s) l

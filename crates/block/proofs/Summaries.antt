@@ -8,16 +8,16 @@ use borrow.Author.Tests.{eqb-true, le-leb, eq-eqb, ne_eqb, lt-ltb, ltb-true}
 use lib.Dec.{leb, ltb, eqb}
 use lib.ListN.{length, drop, length-append}
 use lib.Seq.{drop-drop, drop_at}
-use Rattle.model.specs.Limits.{perBlock}
-use Rattle.model.specs.Post.{Post, Rising, Scored, lastDoc, topScore}
+use Rattle.model.specs.Limits.{per_block}
+use Rattle.model.specs.Post.{Post, Rising, Scored, last_doc, top_score}
 use Rattle.model.proofs.Lists.{split, and-true}
 use Rattle.model.proofs.Posts.{rising-last}
 use Rattle.wire.specs.Number.{num, be}
-use Rattle.wire.specs.Field.{fieldLen, whole, fieldBytes, field_at}
+use Rattle.wire.specs.Field.{field_len, whole, field_bytes, field_at}
 use Rattle.wire.specs.declared.field.FieldRead.TheVariants.{Whole, Missing}
 use Rattle.wire.proofs.Numbers.{num-be, be-length}
-use Rattle.wire.proofs.Fields.{field_is, field-not, whole-size, whole-round, len-round, head-drop, field-size}
-use Rattle.block.specs.Summary.{isSum, sum_of, sumBytes, sum_at, rightSum, summaryOf}
+use Rattle.wire.proofs.Fields.{field_is, field-not, whole-size, whole_round, len_round, head-drop, field-size}
+use Rattle.block.specs.Summary.{is_sum, sum_of, sum_bytes, sum_at, right_sum, summary_of}
 use Rattle.block.specs.declared.summary.Summary.{Summary}
 use Rattle.block.specs.declared.summary.SummaryRead.TheVariants.{Sum, NoSum}
 
@@ -25,17 +25,17 @@ use Rattle.block.specs.declared.summary.SummaryRead.TheVariants.{Sum, NoSum}
 
 module _ (s : List ℕ) (at : ℕ) where
   pub sum-none : field_at 2 s at ≡ Missing → sum_at s at ≡ NoSum
-  unfolding sum_at isSum
+  unfolding sum_at is_sum
   sum-none e = rw (field-not 2 s at e)
 
   pub sum-other : (n : ℕ) → field_at 2 s at ≡ Whole n → (n ≡ 9 → ⊥) → sum_at s at ≡ NoSum
-  unfolding sum_at isSum
+  unfolding sum_at is_sum
   sum-other n e z =
       let i = field_is 2 s at n e in
       rw (i.0, i.1, ne_eqb n 9 z)
 
   pub sum-there : (n : ℕ) → field_at 2 s at ≡ Whole n → n ≡ 9 → sum_at s at ≡ Sum (sum_of false (drop at s))
-  unfolding sum_at isSum
+  unfolding sum_at is_sum
   sum-there n e q =
       let i = field_is 2 s at n e in
       rw (i.0, i.1, eq-eqb n 9 q)
@@ -46,25 +46,25 @@ module _ (s : List ℕ) (at : ℕ) where
   sum-numbers strip = rw (drop-drop 3 at s, drop-drop 6 at s, drop-drop 9 at s, drop-drop 11 at s)
 
   -- from what the code found back to what was read
-  pub sum-found : (m : Summary) → sum_at s at ≡ Sum m → (isSum (drop at s) ≡ true) × (sum_of false (drop at s) ≡ m)
+  pub sum-found : (m : Summary) → sum_at s at ≡ Sum m → (is_sum (drop at s) ≡ true) × (sum_of false (drop at s) ≡ m)
   unfolding sum_at
   sum-found m e =
-      split (isSum (drop at s))
+      split (is_sum (drop at s))
       (λ w. let q : Sum (sum_of false (drop at s)) ≡ Sum m = rw w at e in (w, (cc)))
       (λ w. let q : NoSum ≡ Sum m = rw w at e in let z : ◌≡◌ {A = ℕ} 0 1 = cc in absurd (omega arith))
 
-  pub sum-missing : sum_at s at ≡ NoSum → isSum (drop at s) ≡ false
+  pub sum_missing : sum_at s at ≡ NoSum → is_sum (drop at s) ≡ false
   unfolding sum_at
-  sum-missing e =
-      split (isSum (drop at s))
+  sum_missing e =
+      split (is_sum (drop at s))
       (λ w. let q : Sum (sum_of false (drop at s)) ≡ NoSum = rw w at e in let z : ◌≡◌ {A = ℕ} 0 1 = cc in absurd (omega arith))
       (λ w. w)
 
-pub sum_room : (s : List ℕ) → isSum s ≡ true → 12 ≤ length s
-unfolding isSum
+pub sum_room : (s : List ℕ) → is_sum s ≡ true → 12 ≤ length s
+unfolding is_sum
 sum_room s e =
     let a = and-true (whole 2 s) _ e in
-    omega (arith, whole-size 2 s a.0, eqb-true (fieldLen s) 9 a.1)
+    omega (arith, whole-size 2 s a.0, eqb-true (field_len s) 9 a.1)
 
 -- ---- the bytes, as the code stores them
 
@@ -81,12 +81,12 @@ value-size m =
       be-length 1 m.count,
     )
 
-pub sum-parts : (m : Summary) → (2 ∷ be 2 9) ++ (be 3 m.least ++ (be 3 m.greatest ++ (be 2 m.top ++ be 1 m.count))) ≡ sumBytes m
-unfolding sumBytes fieldBytes
+pub sum-parts : (m : Summary) → (2 ∷ be 2 9) ++ (be 3 m.least ++ (be 3 m.greatest ++ (be 2 m.top ++ be 1 m.count))) ≡ sum_bytes m
+unfolding sum_bytes field_bytes
 sum-parts m = rw (value-size m)
 
-pub sum-size : (m : Summary) → length (sumBytes m) ≡ 12
-unfolding sumBytes
+pub sum-size : (m : Summary) → length (sum_bytes m) ≡ 12
+unfolding sum_bytes
 sum-size m = field-size 2 (be 3 m.least ++ (be 3 m.greatest ++ (be 2 m.top ++ be 1 m.count))) ∙ rw (value-size m)
 
 -- ---- what is written is read back
@@ -99,22 +99,22 @@ pub record Fitting (m : Summary) : Type 0 where
   pub count : m.count < 256
 
 module _ (m : Summary) (r : List ℕ) where
-  pub sum_is : isSum (sumBytes m ++ r) ≡ true
-  unfolding isSum sumBytes
+  pub sum_is : is_sum (sum_bytes m ++ r) ≡ true
+  unfolding is_sum sum_bytes
   sum_is =
       let v = be 3 m.least ++ (be 3 m.greatest ++ (be 2 m.top ++ be 1 m.count)) in
       let short : length v < 65536 = omega (arith, value-size m) in
-      rw (whole-round 2 v r short, len-round 2 v r short, value-size m)
+      rw (whole_round 2 v r short, len_round 2 v r short, value-size m)
 
-  past_head : drop 3 (sumBytes m ++ r) ≡ be 3 m.least ++ (be 3 m.greatest ++ (be 2 m.top ++ (be 1 m.count ++ r)))
-  unfolding sumBytes
+  past_head : drop 3 (sum_bytes m ++ r) ≡ be 3 m.least ++ (be 3 m.greatest ++ (be 2 m.top ++ (be 1 m.count ++ r)))
+  unfolding sum_bytes
   past_head = head-drop 2 (be 3 m.least ++ (be 3 m.greatest ++ (be 2 m.top ++ be 1 m.count))) r ∙ simp append_assoc
 
   -- n bytes on
-  on : (a n k : ℕ) (v t : List ℕ) → drop a (sumBytes m ++ r) ≡ v ++ t → length v ≡ n → k ≡ a + n → drop k (sumBytes m ++ r) ≡ t
-  on a n k v t e l q = rw (q, ← drop-drop n a (sumBytes m ++ r), e) (drop_at v t n l)
+  on : (a n k : ℕ) (v t : List ℕ) → drop a (sum_bytes m ++ r) ≡ v ++ t → length v ≡ n → k ≡ a + n → drop k (sum_bytes m ++ r) ≡ t
+  on a n k v t e l q = rw (q, ← drop-drop n a (sum_bytes m ++ r), e) (drop_at v t n l)
 
-  pub sum-of : Fitting m → sum_of m.strip (sumBytes m ++ r) ≡ m
+  pub sum-of : Fitting m → sum_of m.strip (sum_bytes m ++ r) ≡ m
   unfolding sum_of
   sum-of f =
       let a = past_head in
@@ -134,27 +134,27 @@ module _ (m : Summary) (r : List ℕ) where
 
 -- ---- the summary of postings that follow docid prev is right
 
-pub top_above : (m : ℕ) (ps : List Post) → m ≤ topScore m ps
+pub top_above : (m : ℕ) (ps : List Post) → m ≤ top_score m ps
 top_above m [] = omega arith
 top_above m (p ∷ ps) = omega (arith, top_above (max m p.score) ps)
 
-pub right-sum : (strip : Bool) (prev : ℕ) (p : Post) (ps : List Post) → Rising prev (p ∷ ps) → Scored (p ∷ ps) → length (p ∷ ps) ≤ perBlock → rightSum prev (summaryOf strip (p ∷ ps)) ≡ true
-unfolding rightSum
+pub right-sum : (strip : Bool) (prev : ℕ) (p : Post) (ps : List Post) → Rising prev (p ∷ ps) → Scored (p ∷ ps) → length (p ∷ ps) ≤ per_block → right_sum prev (summary_of strip (p ∷ ps)) ≡ true
+unfolding right_sum
 right-sum strip prev p ps h s n =
     let l = rising-last p.doc ps h.1 in
     let low : prev < p.doc = h.0 in
-    let pos : 0 < topScore (max 0 p.score) ps = omega (arith, top_above (max 0 p.score) ps, s.0.0) in
+    let pos : 0 < top_score (max 0 p.score) ps = omega (arith, top_above (max 0 p.score) ps, s.0.0) in
     rw (
       lt-ltb prev p.doc low,
-      le-leb p.doc (lastDoc p.doc ps) (omega arith),
-      lt-ltb 0 (topScore (max 0 p.score) ps) pos,
+      le-leb p.doc (last_doc p.doc ps) (omega arith),
+      lt-ltb 0 (top_score (max 0 p.score) ps) pos,
       lt-ltb 0 (suc (length ps)) (omega arith),
       le-leb (suc (length ps)) 100 n,
-      le-leb (suc (length ps)) (lastDoc p.doc ps - p.doc + 1) (omega arith),
+      le-leb (suc (length ps)) (last_doc p.doc ps - p.doc + 1) (omega arith),
     )
     (one p ps)
   where
-    one : (p : Post) (ps : List Post) → (ltb 1 (suc (length ps)) || eqb p.doc (lastDoc p.doc ps)) ≡ true
+    one : (p : Post) (ps : List Post) → (ltb 1 (suc (length ps)) || eqb p.doc (last_doc p.doc ps)) ≡ true
     one p [] = eq-eqb p.doc p.doc refl
     one p (q ∷ ps) = rw (lt-ltb 1 (suc (suc (length ps))) (omega arith))
 
@@ -164,9 +164,9 @@ pub record Facts (prev : ℕ) (m : Summary) : Type 0 where
   pub above : prev < m.least
   pub some : 0 < m.count
 
-pub right-facts : (prev : ℕ) (m : Summary) → rightSum prev m ≡ true → Facts prev m
-unfolding rightSum
-right-facts prev m e =
+pub right_facts : (prev : ℕ) (m : Summary) → right_sum prev m ≡ true → Facts prev m
+unfolding right_sum
+right_facts prev m e =
     let a = and-true (ltb prev m.least) _ e in
     let b = and-true (leb m.least m.greatest) _ a.1 in
     let c = and-true (ltb 0 m.top) _ b.1 in

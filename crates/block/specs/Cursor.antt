@@ -3,7 +3,7 @@ use Rattle.std.specs.Prelude.{ℕ, zero, suc, ◌+◌, ◌-◌, List, [], ◌∷
 use Rattle.model.specs.Post.{Post}
 use Rattle.wire.specs.Read.{Read, got, stopped}
 use Rattle.wire.specs.Gap.{score}
-use Rattle.block.specs.Body.{scoreIn, wide, withDoc, posting, posts, readTo}
+use Rattle.block.specs.Body.{score_in, wide, with_doc, posting, posts, read_to}
 use Rattle.block.specs.declared.summary.Summary.{Summary}
 use Rattle.block.specs.declared.cursor.Cursor.{Cursor}
 use Rattle.block.specs.declared.cursor.Step.{Step}
@@ -36,18 +36,18 @@ step_of strip greatest zero at points first d g w = ended g w
 step_of strip greatest (suc n) at points first d g w = stepped strip greatest n at points (posting strip greatest first d g w)
 
 -- what a cursor finds in a body's two runs
-unfoldable pub stepAt : (g w : List ℕ) → Cursor → Step
-stepAt g w c = step_of c.strip c.greatest c.left c.at c.points c.first c.doc (drop c.at g) (drop c.points w)
+unfoldable pub step_at : (g w : List ℕ) → Cursor → Step
+step_at g w c = step_of c.strip c.greatest c.left c.at c.points c.first c.doc (drop c.at g) (drop c.points w)
 
 -- a posting whose docid is the cursor's, and whose score stands at its places
-unfoldable pub scoredAt : (g w : List ℕ) → Cursor → Step
-scoredAt g w c =
-    stepped c.strip c.greatest c.left c.at c.points (withDoc c.strip c.doc (score (scoreIn c.strip 0 (drop c.at g) (drop c.points w))))
+unfoldable pub scored_at : (g w : List ℕ) → Cursor → Step
+scored_at g w c =
+    stepped c.strip c.greatest c.left c.at c.points (with_doc c.strip c.doc (score (score_in c.strip 0 (drop c.at g) (drop c.points w))))
 
 -- the postings that are left
-unfoldable pub postsAt : (g w : List ℕ) → Cursor → Read (List Post)
-postsAt g w c = posts c.strip c.greatest c.left c.first c.doc (drop c.at g) (drop c.points w)
+unfoldable pub posts_at : (g w : List ℕ) → Cursor → Read (List Post)
+posts_at g w c = posts c.strip c.greatest c.left c.first c.doc (drop c.at g) (drop c.points w)
 
 -- the same as far as they read
 unfoldable pub run_at : (g w : List ℕ) → Cursor → List Post
-run_at g w c = readTo c.strip c.greatest c.left c.first c.doc (drop c.at g) (drop c.points w)
+run_at g w c = read_to c.strip c.greatest c.left c.first c.doc (drop c.at g) (drop c.points w)

@@ -2,7 +2,7 @@
 ghost use Rattle.std.specs.Prelude.{◌≡◌, ◌+◌, ◌≤◌, ◌<◌, length, drop, Bool};
 ghost use Rattle.model.specs.Post.{postings, Even};
 ghost use Rattle.model.specs.Runs.{Stored};
-ghost use Rattle.block.specs.Body.{isStrip, tagOf, edge as edge_of, rightBody, ReadsInto, in_turn, laterBytes, backBytes, bodyBytes};
+ghost use Rattle.block.specs.Body.{is_strip, tag_of, edge as edge_of, right_body, ReadsInto, in_turn, later_bytes, back_bytes, body_bytes};
 
 use crate::cursor::{Cursor, Step};
 use crate::summary::Summary;
@@ -11,14 +11,14 @@ use crate::summary::Summary;
 
 // Whether the body that begins at a place is a strip: none is where the shelf ends before it.
 pub fn is_strip(s: &[u8], at: usize) -> bool
-    ensures { result ≡ isStrip (drop at s.now) }
+    ensures { result ≡ is_strip (drop at s.now) }
 {
     if at < s.len() { s[at] == 4 } else { false }
 }
 
 // The tag of a body.
 pub fn tag_of(strip: bool) -> u8
-    ensures { result ≡ tagOf strip }
+    ensures { result ≡ tag_of strip }
 {
     if strip { 4 } else { 3 }
 }
@@ -39,7 +39,7 @@ pub fn edge(s: &[u8], m: Summary) -> usize
 
 // Whether the bytes are a right body for a summary.
 pub fn right_body(s: &[u8], m: Summary) -> bool
-    ensures { result ≡ rightBody m s.now }
+    ensures { result ≡ right_body m s.now }
 {
     let greatest = m.greatest;
     let top = m.top;
@@ -126,8 +126,8 @@ fn put_later(
     docs: &[u32],
     scores: &[u16],
 ) -> usize
-    requires { Even first docs.now scores.now × (at + length (laterBytes strip first (postings docs.now scores.now)) ≤ length out.old) }
-    ensures { Stored out.old out.new at result (laterBytes strip first (postings docs.now scores.now)) }
+    requires { Even first docs.now scores.now × (at + length (later_bytes strip first (postings docs.now scores.now)) ≤ length out.old) }
+    ensures { Stored out.old out.new at result (later_bytes strip first (postings docs.now scores.now)) }
 {
     let mut p = first;
     let mut j = at;
@@ -145,8 +145,8 @@ fn put_later(
 
 // A strip's scores.
 fn put_strip(out: &mut [u8], at: usize, strip: bool, docs: &[u32], scores: &[u16]) -> usize
-    requires { (length docs.now ≡ length scores.now) × (at + length (backBytes strip (postings docs.now scores.now)) ≤ length out.old) }
-    ensures { Stored out.old out.new at result (backBytes strip (postings docs.now scores.now)) }
+    requires { (length docs.now ≡ length scores.now) × (at + length (back_bytes strip (postings docs.now scores.now)) ≤ length out.old) }
+    ensures { Stored out.old out.new at result (back_bytes strip (postings docs.now scores.now)) }
 {
     if !strip {
         return at;
@@ -162,8 +162,8 @@ fn put_strip(out: &mut [u8], at: usize, strip: bool, docs: &[u32], scores: &[u16
 }
 
 pub fn put_body(out: &mut [u8], at: usize, strip: bool, docs: &[u32], scores: &[u16]) -> usize
-    requires { (0 < length docs.now) × Even 0 docs.now scores.now × (at + length (bodyBytes strip (postings docs.now scores.now)) ≤ length out.old) }
-    ensures { Stored out.old out.new at result (bodyBytes strip (postings docs.now scores.now)) }
+    requires { (0 < length docs.now) × Even 0 docs.now scores.now × (at + length (body_bytes strip (postings docs.now scores.now)) ≤ length out.old) }
+    ensures { Stored out.old out.new at result (body_bytes strip (postings docs.now scores.now)) }
 {
     let first = docs[0];
     let s = scores[0];
@@ -175,7 +175,7 @@ pub fn put_body(out: &mut [u8], at: usize, strip: bool, docs: &[u32], scores: &[
 // How many bytes the body takes, in either layout.
 pub fn body_len(docs: &[u32], scores: &[u16]) -> usize
     requires { (0 < length docs.now) × (length docs.now ≤ 100) × Even 0 docs.now scores.now }
-    ensures { (strip : Bool) → result ≡ length (bodyBytes strip (postings docs.now scores.now)) }
+    ensures { (strip : Bool) → result ≡ length (body_bytes strip (postings docs.now scores.now)) }
 {
     let mut p = docs[0];
     let mut t = 2;

@@ -1,7 +1,7 @@
 // A body's reading place: it moves posting by posting and is handed on. A body is read as two runs of bytes (`body::edge`).
 ghost use Rattle.std.specs.Prelude.{◌≡◌, ◌<◌};
 ghost use Rattle.model.specs.Post.{post};
-ghost use Rattle.block.specs.Cursor.{fresh, past, moved, stepAt, scoredAt};
+ghost use Rattle.block.specs.Cursor.{fresh, past, moved, step_at, scored_at};
 ghost use Rattle.block.specs.declared.cursor.Step.TheVariants.{Posting};
 
 use crate::summary::Summary;
@@ -45,7 +45,7 @@ impl Cursor {
     }
 
     pub fn next(self, gaps: &[u8], points: &[u8]) -> Step
-        ensures { result ≡ stepAt gaps.now points.now self }
+        ensures { result ≡ step_at gaps.now points.now self }
     {
         let at = self.at;
         if self.left == 0 {
@@ -92,7 +92,7 @@ fn at_posting(c: Cursor, at: usize, doc: u32) -> Cursor
 
 // The posting of the cursor's docid, whose score stands at its place in the run of its layout, and the cursor past it.
 fn scored(gaps: &[u8], points: &[u8], c: Cursor) -> Step
-    ensures { result ≡ scoredAt gaps.now points.now c }
+    ensures { result ≡ scored_at gaps.now points.now c }
 {
     if c.strip {
         return match wire::gap::score(points, c.points) {

@@ -1,8 +1,8 @@
 // A block's summary: least docid, greatest docid, greatest score, posting count.
 ghost use Rattle.std.specs.Prelude.{◌≡◌, ◌+◌, ◌≤◌, ◌<◌, ◌^◌, length, drop};
-ghost use Rattle.model.specs.Post.{postings, maxFrom};
+ghost use Rattle.model.specs.Post.{postings, max_from};
 ghost use Rattle.model.specs.Runs.{Stored};
-ghost use Rattle.block.specs.Summary.{sum_at, sum_of, rightSum, sumBytes, summaryOf};
+ghost use Rattle.block.specs.Summary.{sum_at, sum_of, right_sum, sum_bytes, summary_of};
 
 use wire::field::FieldRead;
 
@@ -57,7 +57,7 @@ pub fn summary_in(s: &[u8], at: usize, strip: bool) -> Summary
 
 // Whether a summary is right after a block that ends at docid `prev`.
 pub fn right_summary(prev: u32, m: Summary) -> bool
-    ensures { result ≡ rightSum prev m }
+    ensures { result ≡ right_sum prev m }
 {
     let least = m.least;
     let greatest = m.greatest;
@@ -87,7 +87,7 @@ pub fn right_summary(prev: u32, m: Summary) -> bool
 
 // The largest of some scores.
 fn top_of(scores: &[u16]) -> u16
-    ensures { result ≡ maxFrom 0 scores.now }
+    ensures { result ≡ max_from 0 scores.now }
 {
     let mut m = 0;
     let mut i = 0;
@@ -104,7 +104,7 @@ fn top_of(scores: &[u16]) -> u16
 // The summary of some postings, with a body of either layout.
 pub fn summary_of(docs: &[u32], scores: &[u16], strip: bool) -> Summary
     requires { (0 < length docs.now) × (length docs.now ≤ 100) × (length docs.now ≡ length scores.now) }
-    ensures { result ≡ summaryOf strip (postings docs.now scores.now) }
+    ensures { result ≡ summary_of strip (postings docs.now scores.now) }
 {
     let n = docs.len();
     let e = n - 1;
@@ -122,7 +122,7 @@ pub fn summary_of(docs: &[u32], scores: &[u16], strip: bool) -> Summary
 
 pub fn put_summary(out: &mut [u8], at: usize, m: Summary) -> usize
     requires { (m.least < 256 ^ 3) × (m.greatest < 256 ^ 3) × (at + 12 ≤ length out.old) }
-    ensures { Stored out.old out.new at result (sumBytes m) }
+    ensures { Stored out.old out.new at result (sum_bytes m) }
 {
     let least = m.least;
     let greatest = m.greatest;

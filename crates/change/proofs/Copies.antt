@@ -6,7 +6,7 @@ use mathlib.Core.List.{List, [], ◌∷◌, ◌++◌}
 use lib.ListN.{length, get_or, set, take, drop, length-drop}
 use lib.Seq.{length-take-le}
 use Rattle.model.specs.Runs.{Stored}
-use Rattle.model.proofs.Lists.{rest-cons}
+use Rattle.model.proofs.Lists.{rest_cons}
 use Rattle.model.proofs.Storing.{Rest, rest-start, rest-turn, rest_end}
 
 -- the bytes from i up to an end
@@ -16,7 +16,7 @@ up_to to s i = take (to - i) (drop i s)
 up_more : (to : ℕ) (s : List ℕ) (i : ℕ) → i < to → to ≤ length s → up_to to s i ≡ (get_or s i 0 ∷ []) ++ up_to to s (i + 1)
 up_more to s i l h =
     let k : to - i ≡ suc (to - (i + 1)) = omega arith in
-    rw (k, rest-cons s i (omega arith))
+    rw (k, rest_cons s i (omega arith))
 
 pub up-length : (to : ℕ) (s : List ℕ) (i : ℕ) → to ≤ length s → length (up_to to s i) ≡ to - i
 up-length to s i h = length-take-le (to - i) (drop i s) (omega (arith, length-drop i s))

@@ -8,20 +8,20 @@ use borrow.Author.Tests.{ltb-true, ltb-false, le-leb}
 use lib.Dec.{ltb}
 use lib.ListN.{length, take, drop, length-append, length-drop, take-append-drop}
 use lib.Seq.{take_at, drop_at, drop-drop}
-use Rattle.model.specs.Limits.{maxLists, maxShelf}
+use Rattle.model.specs.Limits.{max_lists, max_shelf}
 use Rattle.model.specs.Outcome.{Outcome, refused, done}
 use Rattle.model.specs.Post.{Post}
 use Rattle.model.specs.Runs.{Bytes}
 use Rattle.model.proofs.Lists.{split, bytes_drop, rest-none}
-use Rattle.shelf.specs.Walk.{Listing, list, onto, lists, walk, postsOf, stripOf}
-use Rattle.shelf.specs.Check.{badBody, badLists, checked, judged}
+use Rattle.shelf.specs.Walk.{Listing, list, onto, lists, walk, posts_of, strip_of}
+use Rattle.shelf.specs.Check.{bad_body, bad_lists, checked, judged}
 use Rattle.shelf.specs.declared.check.BadRead.TheVariants.{NoBad}
-use Rattle.shelf.proofs.Walks.{list-walked, lists-none, lists-full, lists-step, lists-stop}
-use Rattle.shelf.proofs.Sounds.{or-none, sound-walk}
+use Rattle.shelf.proofs.Walks.{list-walked, lists-none, lists_full, lists-step, lists-stop}
+use Rattle.shelf.proofs.Sounds.{or_none, sound-walk}
 use Rattle.lookup.proofs.Stands.{walk-size, walk-lists}
 use Rattle.list.specs.Write.{Word, Writable, Words, word_of, words_of}
 use Rattle.list.proofs.Shelves.{sound-words}
-use Rattle.list.proofs.Pieces.{ReadsAt, Stands, packed-stands, copied-stands}
+use Rattle.list.proofs.Pieces.{ReadsAt, Stands, packed_stands, copied_stands}
 use Rattle.change.specs.Bytes.{Piece, piece_of, pieces, joined, contents, anew}
 
 -- ---- a piece that stands by itself
@@ -37,15 +37,15 @@ Rises floor [] = Unit {0}
 Rises floor (x ∷ xs) = (floor ≤ x.term) × Standing x × Rises (x.term + 1) xs
 
 -- the writer's pieces
-pub anew-stands : (strip : Bool) (t : ℕ) (ps : List Post) → t < 2 ^ 32 → Writable ps → Standing (anew strip t ps)
-anew-stands strip t ps small w = record { stands = packed-stands strip t ps small w; small = small; may = w }
+pub anew_stands : (strip : Bool) (t : ℕ) (ps : List Post) → t < 2 ^ 32 → Writable ps → Standing (anew strip t ps)
+anew_stands strip t ps small w = record { stands = packed_stands strip t ps small w; small = small; may = w }
 
 -- the pieces of a sound shelf
-kept-stands : (floor at : ℕ) (s : List ℕ) (l : Listing) → Bytes s → list floor at (drop at s) ≡ done l → badBody l.blocks ≡ NoBad → l.place.term < 2 ^ 32 → Writable (postsOf l.blocks) →
+kept_stands : (floor at : ℕ) (s : List ℕ) (l : Listing) → Bytes s → list floor at (drop at s) ≡ done l → bad_body l.blocks ≡ NoBad → l.place.term < 2 ^ 32 → Writable (posts_of l.blocks) →
     Standing (piece_of s l)
-kept-stands floor at s l h e r small may =
+kept_stands floor at s l h e r small may =
     let here : take (l.place.next - l.place.at) (drop l.place.at s) ≡ take (l.place.next - at) (drop at s) = rw (list-walked floor at s l e).start in
-    record { stands = rw here (copied-stands floor at (drop at s) l (bytes_drop at s h) e r); small = small; may = may }
+    record { stands = rw here (copied_stands floor at (drop at s) l (bytes_drop at s h) e r); small = small; may = may }
 
 -- ---- the lists from a place on, from the first
 
@@ -59,7 +59,7 @@ onto-some l (done ls) e = let z : ◌≡◌ {A = ℕ} 0 1 = cc in omega arith
 
 module _ (n floor at : ℕ) (s : List ℕ) (ls : List Listing) (e : lists n floor at (drop at s) ≡ done ls) (lt : at < length s) where
   more_left : n ≡ 0 → ⊥
-  more_left z = let f : refused 6 at ≡ done ls = sym (lists-full n floor at s lt z) ∙ e in let q : ◌≡◌ {A = ℕ} 0 1 = cc in omega arith
+  more_left z = let f : refused 6 at ≡ done ls = sym (lists_full n floor at s lt z) ∙ e in let q : ◌≡◌ {A = ℕ} 0 1 = cc in omega arith
 
   pub not_stopped : (k o : ℕ) → list floor at (drop at s) ≡ refused k o → ⊥
   not_stopped k o q = let f : refused k o ≡ done ls = sym (lists-stop n floor at s lt more_left k o q) ∙ e in let z : ◌≡◌ {A = ℕ} 0 1 = cc in omega arith
@@ -67,8 +67,8 @@ module _ (n floor at : ℕ) (s : List ℕ) (ls : List Listing) (e : lists n floo
   stepped : (l : Listing) → list floor at (drop at s) ≡ done l → onto l (lists (n - 1) (l.place.term + 1) l.place.next (drop l.place.next s)) ≡ done ls
   stepped l q = sym (lists-step n floor at s lt more_left l q) ∙ e
 
-pub lists-nil : (n floor at : ℕ) (s : List ℕ) → lists n floor at (drop at s) ≡ done [] → length s ≤ at
-lists-nil n floor at s e =
+pub lists_nil : (n floor at : ℕ) (s : List ℕ) → lists n floor at (drop at s) ≡ done [] → length s ≤ at
+lists_nil n floor at s e =
     split (ltb at (length s))
     (λ t. let lt = ltb-true at (length s) t in go lt (list floor at (drop at s)) refl)
     (λ t. ltb-false at (length s) t)
@@ -83,8 +83,8 @@ pub record Next (n floor at : ℕ) (s : List ℕ) (l : Listing) (ms : List Listi
   pub reads : list floor at (drop at s) ≡ done l
   pub left : lists (n - 1) (l.place.term + 1) l.place.next (drop l.place.next s) ≡ done ms
 
-pub lists-inv : (n floor at : ℕ) (s : List ℕ) (l : Listing) (ms : List Listing) → lists n floor at (drop at s) ≡ done (l ∷ ms) → Next n floor at s l ms
-lists-inv n floor at s l ms e =
+pub lists_inv : (n floor at : ℕ) (s : List ℕ) (l : Listing) (ms : List Listing) → lists n floor at (drop at s) ≡ done (l ∷ ms) → Next n floor at s l ms
+lists_inv n floor at s l ms e =
     split (ltb at (length s))
     (λ t. let lt = ltb-true at (length s) t in go lt (list floor at (drop at s)) refl)
     (λ t.
@@ -101,27 +101,27 @@ lists-inv n floor at s l ms e =
 
 -- the pieces are the bytes
 pub pieces-joined : (n floor at : ℕ) (s : List ℕ) (ls : List Listing) → lists n floor at (drop at s) ≡ done ls → joined (pieces s ls) ≡ drop at s
-pieces-joined n floor at s [] e = sym (rest-none s at (lists-nil n floor at s e))
+pieces-joined n floor at s [] e = sym (rest-none s at (lists_nil n floor at s e))
 pieces-joined n floor at s (l ∷ ms) e =
-    let i = lists-inv n floor at s l ms e in
+    let i = lists_inv n floor at s l ms e in
     let w = list-walked floor at s l i.reads in
     let k = l.place.next - at in
     let q : at + k ≡ l.place.next = omega (arith, w.above) in
     let past : drop k (drop at s) ≡ drop l.place.next s = rw (drop-drop k at s, q) in
     rw (w.start, pieces-joined (n - 1) (l.place.term + 1) l.place.next s ms i.left, ← past) (take-append-drop k (drop at s))
 
-pieces-rise : (n floor at : ℕ) (s : List ℕ) (ls : List Listing) → Bytes s → lists n floor at (drop at s) ≡ done ls → badLists ls ≡ NoBad → Words floor (words_of ls) → Rises floor (pieces s ls)
+pieces-rise : (n floor at : ℕ) (s : List ℕ) (ls : List Listing) → Bytes s → lists n floor at (drop at s) ≡ done ls → bad_lists ls ≡ NoBad → Words floor (words_of ls) → Rises floor (pieces s ls)
 pieces-rise n floor at s [] h e b g = tt
 pieces-rise n floor at s (l ∷ ms) h e b g =
-    let i = lists-inv n floor at s l ms e in
-    let o = or-none (badBody l.blocks) (badLists ms) b in
-    (g.0, kept-stands floor at s l h i.reads o.0 g.1 g.2, pieces-rise (n - 1) (l.place.term + 1) l.place.next s ms h i.left o.1 g.3)
+    let i = lists_inv n floor at s l ms e in
+    let o = or_none (bad_body l.blocks) (bad_lists ms) b in
+    (g.0, kept_stands floor at s l h i.reads o.0 g.1 g.2, pieces-rise (n - 1) (l.place.term + 1) l.place.next s ms h i.left o.1 g.3)
 
 -- no more lists than may come
 lists-most : (n floor at : ℕ) (s : List ℕ) (ls : List Listing) → lists n floor at (drop at s) ≡ done ls → length ls ≤ n
 lists-most n floor at s [] e = omega arith
 lists-most n floor at s (l ∷ ms) e =
-    let i = lists-inv n floor at s l ms e in
+    let i = lists_inv n floor at s l ms e in
     omega (arith, lists-most (n - 1) (l.place.term + 1) l.place.next s ms i.left, more_left n floor at s (l ∷ ms) e i.inside)
 
 -- ---- what the checker found
@@ -132,14 +132,14 @@ judged-lists (refused n o) e = let z : ◌≡◌ {A = ℕ} 0 1 = cc in absurd (o
 judged-lists (done ls) e = (ls, refl)
 
 -- its pieces hold what its lists hold
-pub pieces-hold : (s : List ℕ) (ls : List Listing) → contents (pieces s ls) ≡ words_of ls
-pieces-hold s [] = refl
-pieces-hold s (l ∷ ms) = ap {B = List Word} (λ ws. word_of l ∷ ws) (pieces-hold s ms)
+pub pieces_hold : (s : List ℕ) (ls : List Listing) → contents (pieces s ls) ≡ words_of ls
+pieces_hold s [] = refl
+pieces_hold s (l ∷ ms) = ap {B = List Word} (λ ws. word_of l ∷ ws) (pieces_hold s ms)
 
 pub record Sound (s : List ℕ) (ls : List Listing) : Type 0 where
-  pub short : length s ≤ maxShelf
-  pub reads : lists maxLists 0 0 s ≡ done ls
-  pub right : badLists ls ≡ NoBad
+  pub short : length s ≤ max_shelf
+  pub reads : lists max_lists 0 0 s ≡ done ls
+  pub right : bad_lists ls ≡ NoBad
 
 pub checked-sound : (s : List ℕ) (ls : List Listing) → checked s ≡ done ls → Sound s ls
 checked-sound s ls e =
@@ -150,7 +150,7 @@ pub sound-checked : (s : List ℕ) (ls : List Listing) → Sound s ls → checke
 unfolding checked walk
 sound-checked s ls o = rw (le-leb (length s) 1048576 o.short, o.reads, o.right)
 
-pub sound-lists : (s : List ℕ) (ls : List Listing) → checked s ≡ done ls → length ls ≤ maxLists
+pub sound-lists : (s : List ℕ) (ls : List Listing) → checked s ≡ done ls → length ls ≤ max_lists
 sound-lists s ls e = lists-most 1024 0 0 s ls (checked-sound s ls e).reads
 
 -- a sound shelf is pieces that stand
@@ -169,12 +169,12 @@ piece_is x t ps strip bs e f g h = rw (e, f, g, h)
 pub record Found (n floor at : ℕ) (s : List ℕ) (xs : List Piece) : Type 0 where
   pub found : List Listing
   pub reads : lists n floor at (drop at s) ≡ done found
-  pub right : badLists found ≡ NoBad
+  pub right : bad_lists found ≡ NoBad
   pub same : pieces s found ≡ xs
 
-found-cons : (n floor at : ℕ) (s : List ℕ) (x : Piece) (xs : List Piece) → drop at s ≡ x.bytes ++ joined xs → Standing x → (r : ReadsAt x.strip x.term x.posts x.bytes floor at (joined xs)) →
+found_cons : (n floor at : ℕ) (s : List ℕ) (x : Piece) (xs : List Piece) → drop at s ≡ x.bytes ++ joined xs → Standing x → (r : ReadsAt x.strip x.term x.posts x.bytes floor at (joined xs)) →
     Found n (x.term + 1) (at + length x.bytes) s xs → Found (suc n) floor at s (x ∷ xs)
-found-cons n floor at s x xs d w r f =
+found_cons n floor at s x xs d w r f =
     let l = r.found in
     let e : list floor at (drop at s) ≡ done l = rw d r.reads in
     let lt : at < length s = omega (arith, length-drop at s, ap length d, length-append x.bytes (joined xs), w.stands.size) in
@@ -188,7 +188,7 @@ found-cons n floor at s x xs d w r f =
       found = l ∷ f.found;
       reads = step ∙ ap (λ (o : Outcome (List Listing)). onto l o) rest;
       right = rw r.right f.right;
-      same = ap {B = List Piece} (λ (y : Piece). y ∷ pieces s f.found) (piece_is x l.place.term (postsOf l.blocks) (stripOf l.blocks) (take (l.place.next - l.place.at) (drop l.place.at s)) r.term r.posts r.layout own)
+      same = ap {B = List Piece} (λ (y : Piece). y ∷ pieces s f.found) (piece_is x l.place.term (posts_of l.blocks) (strip_of l.blocks) (take (l.place.next - l.place.at) (drop l.place.at s)) r.term r.posts r.layout own)
           ∙ ap {B = List Piece} (λ (ys : List Piece). x ∷ ys) f.same;
     }
 
@@ -200,10 +200,10 @@ found_all zero floor at s (x ∷ xs) d h r = absurd (omega arith)
 found_all (suc n) floor at s (x ∷ xs) d h r =
     let past : drop (at + length x.bytes) s ≡ joined xs =
     sym (drop-drop (length x.bytes) at s) ∙ ap {B = List ℕ} (λ t. drop (length x.bytes) t) d ∙ drop_at x.bytes (joined xs) (length x.bytes) refl in
-    found-cons n floor at s x xs d r.1 (r.1.stands.reads floor at (joined xs) r.0) (found_all n (x.term + 1) (at + length x.bytes) s xs past (omega arith) r.2)
+    found_cons n floor at s x xs d r.1 (r.1.stands.reads floor at (joined xs) r.0) (found_all n (x.term + 1) (at + length x.bytes) s xs past (omega arith) r.2)
 
-pub standing-sound : (v : List ℕ) (xs : List Piece) → joined xs ≡ v → Rises 0 xs → length xs ≤ maxLists → length v ≤ maxShelf →
+pub standing_sound : (v : List ℕ) (xs : List Piece) → joined xs ≡ v → Rises 0 xs → length xs ≤ max_lists → length v ≤ max_shelf →
     (ls : List Listing) × (checked v ≡ done ls) × (pieces v ls ≡ xs)
-standing-sound v xs e r few small =
+standing_sound v xs e r few small =
     let f = found_all 1024 0 0 v xs (sym e) few r in
     (f.found, sound-checked v f.found (record { short = small; reads = f.reads; right = f.right }), f.same)

@@ -13,9 +13,9 @@ use Rattle.model.specs.Post.{Post, post, postings, docs, scores, Rising}
 use Rattle.model.specs.Runs.{has, Holds}
 use Rattle.model.proofs.Lists.{split, both_ways, map-length, get_d_map}
 use Rattle.model.proofs.Storing.{front-more, past_more, run_holds, holds-take, holds-drop}
-use Rattle.change.specs.Edits.{setPost, clearPost}
-use Rattle.change.specs.Runs.{front, Clears, Insertable, Inserts, lowerOf, upperOf}
-use Rattle.change.proofs.Postings.{rising-less}
+use Rattle.change.specs.Edits.{set_post, clear_post}
+use Rattle.change.specs.Runs.{front, Clears, Insertable, Inserts, lower_of, upper_of}
+use Rattle.change.proofs.Postings.{rising_less}
 use Rattle.change.specs.declared.runs.Posting.{Posting}
 
 -- ---- postings and their two runs
@@ -67,8 +67,8 @@ front-runs ds ss n h k =
     let e : length (take n ds) ≡ length (take n ss) = omega (arith, length-take-le n ds h, length-take-le n ss k) in
     record { roomy = h; wide = k; docids = sym (docs-of (take n ds) (take n ss) e); scored = sym (scores-of (take n ds) (take n ss) e) }
 
-front-more' : (i : ℕ) (ds ss : List ℕ) → i < length ds → i < length ss → front (i + 1) ds ss ≡ front i ds ss ++ (post (get_or ds i 0) (get_or ss i 0) ∷ [])
-front-more' i ds ss h k =
+front_more' : (i : ℕ) (ds ss : List ℕ) → i < length ds → i < length ss → front (i + 1) ds ss ≡ front i ds ss ++ (post (get_or ds i 0) (get_or ss i 0) ∷ [])
+front_more' i ds ss h k =
     let e : length (take i ds) ≡ length (take i ss) = omega (arith, length-take-le i ds (omega arith), length-take-le i ss (omega arith)) in
     rw (add-one i, take-suc ds i 0 h, take-suc ss i 0 k) (postings-append (take i ds) (take i ss) (get_or ds i 0 ∷ []) (get_or ss i 0 ∷ []) e)
 
@@ -117,7 +117,7 @@ append-none (x ∷ xs) = ap {B = List Post} (λ t. x ∷ t) (append-none xs)
 
 -- ---- taking one out
 
-clear-append : (d : ℕ) (xs ys : List Post) → clearPost d (xs ++ ys) ≡ clearPost d xs ++ clearPost d ys
+clear-append : (d : ℕ) (xs ys : List Post) → clear_post d (xs ++ ys) ≡ clear_post d xs ++ clear_post d ys
 clear-append d [] ys = refl
 clear-append d (x ∷ xs) ys = split (eqb d x.doc) (λ e. rw (e, clear-append d xs ys)) (λ e. rw (e, clear-append d xs ys))
 
@@ -126,8 +126,8 @@ pub record Clearing (d n : ℕ) (ds₀ ss₀ ds ss : List ℕ) (i j : ℕ) : Typ
   pub alike : Alike ds₀ ss₀ ds ss
   pub order : j ≤ i
   pub most : i ≤ n
-  pub docids : Holds ds₀ (docs (clearPost d (front i ds₀ ss₀))) ds j
-  pub scored : Holds ss₀ (scores (clearPost d (front i ds₀ ss₀))) ss j
+  pub docids : Holds ds₀ (docs (clear_post d (front i ds₀ ss₀))) ds j
+  pub scored : Holds ss₀ (scores (clear_post d (front i ds₀ ss₀))) ss j
 
 module _ (d n : ℕ) (ds₀ ss₀ : List ℕ) (roomy : n ≤ length ds₀) (wide : n ≤ length ss₀) where
   pub clear-start : Clearing d n ds₀ ss₀ ds₀ ss₀ 0 0
@@ -141,18 +141,18 @@ module _ (d n : ℕ) (ds₀ ss₀ : List ℕ) (roomy : n ≤ length ds₀) (wide
       }
 
   module _ (ds ss : List ℕ) (i j : ℕ) (l : i < n) (c : Clearing d n ds₀ ss₀ ds ss i j) where
-    one_more : clearPost d (front (i + 1) ds₀ ss₀) ≡ clearPost d (front i ds₀ ss₀) ++ clearPost d (post (get_or ds i 0) (get_or ss i 0) ∷ [])
+    one_more : clear_post d (front (i + 1) ds₀ ss₀) ≡ clear_post d (front i ds₀ ss₀) ++ clear_post d (post (get_or ds i 0) (get_or ss i 0) ∷ [])
     one_more =
-        rw (front-more' i ds₀ ss₀ (omega arith) (omega arith), past-at c.docids i c.order, past-at c.scored i c.order)
+        rw (front_more' i ds₀ ss₀ (omega arith) (omega arith), past-at c.docids i c.order, past-at c.scored i c.order)
         (clear-append d (front i ds₀ ss₀) (post (get_or ds₀ i 0) (get_or ss₀ i 0) ∷ []))
 
     pub clear_stays : (get_or ds i 0 ≡ d → ⊥) → Clearing d n ds₀ ss₀ (set ds j (get_or ds i 0)) (set ss j (get_or ss i 0)) (i + 1) (j + 1)
     clear_stays ne =
-        let kept = clearPost d (front i ds₀ ss₀) in
+        let kept = clear_post d (front i ds₀ ss₀) in
         let x = get_or ds i 0 in
         let y = get_or ss i 0 in
         let f : eqb d x ≡ false = ne_eqb d x (λ (z : d ≡ x). ne (sym z)) in
-        let e : clearPost d (front (i + 1) ds₀ ss₀) ≡ kept ++ (post x y ∷ []) = one_more ∙ rw f in
+        let e : clear_post d (front (i + 1) ds₀ ss₀) ≡ kept ++ (post x y ∷ []) = one_more ∙ rw f in
         record {
           alike = record { docids = length-set ds j x ∙ c.alike.docids; scored = length-set ss j y ∙ c.alike.scored };
           order = omega (arith, c.order);
@@ -161,11 +161,11 @@ module _ (d n : ℕ) (ds₀ ss₀ : List ℕ) (roomy : n ≤ length ds₀) (wide
           scored = subst (λ (v : List ℕ). Holds ss₀ v (set ss j y) (j + 1)) (sym (ap scores e ∙ scores-append kept (post x y ∷ []))) (holds_more c.scored y (omega (arith, c.order, c.alike.scored)));
         }
 
-    pub clear-goes : get_or ds i 0 ≡ d → Clearing d n ds₀ ss₀ ds ss (i + 1) j
-    clear-goes eq =
-        let kept = clearPost d (front i ds₀ ss₀) in
+    pub clear_goes : get_or ds i 0 ≡ d → Clearing d n ds₀ ss₀ ds ss (i + 1) j
+    clear_goes eq =
+        let kept = clear_post d (front i ds₀ ss₀) in
         let f : eqb d (get_or ds i 0) ≡ true = eq-eqb d (get_or ds i 0) (sym eq) in
-        let e : clearPost d (front (i + 1) ds₀ ss₀) ≡ kept = one_more ∙ rw f (append-none kept) in
+        let e : clear_post d (front (i + 1) ds₀ ss₀) ≡ kept = one_more ∙ rw f (append-none kept) in
         record {
           alike = c.alike;
           order = omega (arith, c.order);
@@ -175,8 +175,8 @@ module _ (d n : ℕ) (ds₀ ss₀ : List ℕ) (roomy : n ≤ length ds₀) (wide
         }
 
   -- the same runs by other names
-  pub clear-as : (i : ℕ) {ds ss ds' ss' : List ℕ} {j j' : ℕ} → ds' ≡ ds → ss' ≡ ss → j' ≡ j → Clearing d n ds₀ ss₀ ds ss i j → Clearing d n ds₀ ss₀ ds' ss' i j'
-  clear-as i {ds} {ss} {ds'} {ss'} {j} {j'} e f g c =
+  pub clear_as : (i : ℕ) {ds ss ds' ss' : List ℕ} {j j' : ℕ} → ds' ≡ ds → ss' ≡ ss → j' ≡ j → Clearing d n ds₀ ss₀ ds ss i j → Clearing d n ds₀ ss₀ ds' ss' i j'
+  clear_as i {ds} {ss} {ds'} {ss'} {j} {j'} e f g c =
       subst (λ (x : List ℕ). Clearing d n ds₀ ss₀ x ss' i j') (sym e)
       (subst (λ (x : List ℕ). Clearing d n ds₀ ss₀ ds x i j') (sym f)
       (subst (λ (k : ℕ). Clearing d n ds₀ ss₀ ds ss i k) (sym g) c))
@@ -185,14 +185,14 @@ module _ (d n : ℕ) (ds₀ ss₀ : List ℕ) (roomy : n ≤ length ds₀) (wide
   clear-done ds ss i j h c =
       let q : i ≡ n = omega (arith, c.most) in
       record {
-        docids = subst (λ (k : ℕ). Holds ds₀ (docs (clearPost d (front k ds₀ ss₀))) ds j) q c.docids;
-        scored = subst (λ (k : ℕ). Holds ss₀ (scores (clearPost d (front k ds₀ ss₀))) ss j) q c.scored;
+        docids = subst (λ (k : ℕ). Holds ds₀ (docs (clear_post d (front k ds₀ ss₀))) ds j) q c.docids;
+        scored = subst (λ (k : ℕ). Holds ss₀ (scores (clear_post d (front k ds₀ ss₀))) ss j) q c.scored;
       }
 
 -- the same for the postings that two runs are known to hold
-pub clears-runs : {d n r : ℕ} {ds ss ds' ss' : List ℕ} {ps : List Post} → Runs ds ss n ps → Clears d n ds ss r ds' ss' → Runs ds' ss' r (clearPost d ps)
-clears-runs {d} {n} {r} {ds} {ss} {ds'} {ss'} {ps} k c =
-    subst (λ (x : List Post). Runs ds' ss' r (clearPost d x)) (runs-front ds ss n ps k) (holds-runs (clearPost d (front n ds ss)) c.docids c.scored)
+pub clears_runs : {d n r : ℕ} {ds ss ds' ss' : List ℕ} {ps : List Post} → Runs ds ss n ps → Clears d n ds ss r ds' ss' → Runs ds' ss' r (clear_post d ps)
+clears_runs {d} {n} {r} {ds} {ss} {ds'} {ss'} {ps} k c =
+    subst (λ (x : List Post). Runs ds' ss' r (clear_post d x)) (runs-front ds ss n ps k) (holds-runs (clear_post d (front n ds ss)) c.docids c.scored)
 
 -- ---- putting one in
 
@@ -202,7 +202,7 @@ rising-free n d [] l r = refl
 rising-free n d (p ∷ ps) l r =
     rw (ne_eqb d p.doc (λ (z : d ≡ p.doc). omega (arith, r.0))) (rising-free p.doc d ps (omega (arith, r.0)) r.1)
 
-pub set_first : (d w : ℕ) (ps : List Post) → Rising d ps → setPost d w ps ≡ post d w ∷ ps
+pub set_first : (d w : ℕ) (ps : List Post) → Rising d ps → set_post d w ps ≡ post d w ∷ ps
 set_first d w [] r = refl
 set_first d w (p ∷ ps) r = rw (lt-ltb d p.doc r.0)
 
@@ -211,7 +211,7 @@ pub record Carried (d w : ℕ) (ps : List Post) (ds ss : List ℕ) (i : ℕ) (c 
   pub placed : List Post
   pub docids : take i ds ≡ docs placed
   pub scored : take i ss ≡ scores placed
-  pub whole : placed ++ setPost c.doc c.score (drop i ps) ≡ setPost d w ps
+  pub whole : placed ++ set_post c.doc c.score (drop i ps) ≡ set_post d w ps
   pub rise : Rising 0 (drop i ps)
   pub free : has c.doc (docs (drop i ps)) ≡ false
 
@@ -223,15 +223,15 @@ pub record Inserting (d w n : ℕ) (ds₀ ss₀ ds ss : List ℕ) (i : ℕ) (c :
   pub carried : Carried d w (front n ds₀ ss₀) ds ss i c
 
 -- q goes to place i, and c is carried on
-carry-on : (d w : ℕ) (ps : List Post) (ds ss : List ℕ) (i x y : ℕ) (c e : Posting) (rest : List Post) → i < length ds → i < length ss → (k : Carried d w ps ds ss i c) → drop (i + 1) ps ≡ rest →
-    setPost c.doc c.score (drop i ps) ≡ post x y ∷ setPost e.doc e.score rest → Rising 0 rest → has e.doc (docs rest) ≡ false →
+carry_on : (d w : ℕ) (ps : List Post) (ds ss : List ℕ) (i x y : ℕ) (c e : Posting) (rest : List Post) → i < length ds → i < length ss → (k : Carried d w ps ds ss i c) → drop (i + 1) ps ≡ rest →
+    set_post c.doc c.score (drop i ps) ≡ post x y ∷ set_post e.doc e.score rest → Rising 0 rest → has e.doc (docs rest) ≡ false →
     Carried d w ps (set ds i x) (set ss i y) (i + 1) e
-carry-on d w ps ds ss i x y c e rest h l k q s r f =
+carry_on d w ps ds ss i x y c e rest h l k q s r f =
     record {
       placed = k.placed ++ (post x y ∷ []);
       docids = front-more ds i x h ∙ rw k.docids (sym (docs-append k.placed (post x y ∷ [])));
       scored = front-more ss i y l ∙ rw k.scored (sym (scores-append k.placed (post x y ∷ [])));
-      whole = rw (append_assoc k.placed (post x y ∷ []) (setPost e.doc e.score (drop (i + 1) ps)), q, ← s) k.whole;
+      whole = rw (append_assoc k.placed (post x y ∷ []) (set_post e.doc e.score (drop (i + 1) ps)), q, ← s) k.whole;
       rise = rw q r;
       free = rw q f;
     }
@@ -245,21 +245,21 @@ here-is n i ds ss ps h r =
     let ss1 : p.score ≡ get_or ss i 0 = sym (get_d_map (λ (q : Post). q.score) (post 0 0) ps i) ∙ ap (λ (t : List ℕ). get_or t i 0) (sym r.scored) ∙ get_or-take n ss i 0 h in
     rw (add-one i, ← dd, ← ss1) (drop-cons ps i (post 0 0) (omega arith))
 
-carry-turn : (d w n : ℕ) (ds₀ ss₀ ds ss : List ℕ) (ps : List Post) (i x y : ℕ) (c : Posting) → i < length ds → i < length ss → drop i ps ≡ post x y ∷ drop (i + 1) ps →
+carry_turn : (d w n : ℕ) (ds₀ ss₀ ds ss : List ℕ) (ps : List Post) (i x y : ℕ) (c : Posting) → i < length ds → i < length ss → drop i ps ≡ post x y ∷ drop (i + 1) ps →
     Carried d w ps ds ss i c →
-    Carried d w ps (set ds i (lowerOf c (record { doc = x; score = y })).doc) (set ss i (lowerOf c (record { doc = x; score = y })).score) (i + 1) (upperOf c (record { doc = x; score = y }))
-carry-turn d w n ds₀ ss₀ ds ss ps i x y c h l e k =
+    Carried d w ps (set ds i (lower_of c (record { doc = x; score = y })).doc) (set ss i (lower_of c (record { doc = x; score = y })).score) (i + 1) (upper_of c (record { doc = x; score = y }))
+carry_turn d w n ds₀ ss₀ ds ss ps i x y c h l e k =
     let rest = drop (i + 1) ps in
     let r : Rising 0 (post x y ∷ rest) = rw e at k.rise in
     let f : has c.doc (docs (post x y ∷ rest)) ≡ false = rw e at k.free in
-    let r0 : Rising 0 rest = rising-less 0 x rest (omega arith) r.1 in
+    let r0 : Rising 0 rest = rising_less 0 x rest (omega arith) r.1 in
     split (ltb c.doc x)
     (λ t. rw t
-    (carry-on d w ps ds ss i c.doc c.score c (record { doc = x; score = y }) rest h l k refl
+    (carry_on d w ps ds ss i c.doc c.score c (record { doc = x; score = y }) rest h l k refl
     (rw (e, t) (ap {B = List Post} (λ u. post c.doc c.score ∷ u) (sym (set_first x y rest r.1)))) r0 (rising-free x x rest (omega arith) r.1)))
     (λ t. split (eqb c.doc x)
     (λ g. both_ways (has c.doc (docs (post x y ∷ rest))) (rw g) f)
-    (λ g. rw t (carry-on d w ps ds ss i x y c c rest h l k refl (rw (e, t, g)) r0 (rw g at f))))
+    (λ g. rw t (carry_on d w ps ds ss i x y c c rest h l k refl (rw (e, t, g)) r0 (rw g at f))))
 
 module _ (d w n : ℕ) (ds₀ ss₀ : List ℕ) (o : Insertable d n ds₀ ss₀) where
   pub insert-start : Inserting d w n ds₀ ss₀ ds₀ ss₀ 0 (record { doc = d; score = w })
@@ -277,10 +277,10 @@ module _ (d w n : ℕ) (ds₀ ss₀ : List ℕ) (o : Insertable d n ds₀ ss₀)
 
   module _ (ds ss : List ℕ) (i : ℕ) (c : Posting) (k : Inserting d w n ds₀ ss₀ ds ss i c) where
     turn-own : (x y : ℕ) → i < n → x ≡ get_or ds i 0 → y ≡ get_or ss i 0 →
-        Inserting d w n ds₀ ss₀ (set ds i (lowerOf c (record { doc = x; score = y })).doc) (set ss i (lowerOf c (record { doc = x; score = y })).score) (i + 1) (upperOf c (record { doc = x; score = y }))
+        Inserting d w n ds₀ ss₀ (set ds i (lower_of c (record { doc = x; score = y })).doc) (set ss i (lower_of c (record { doc = x; score = y })).score) (i + 1) (upper_of c (record { doc = x; score = y }))
     turn-own x y l ex ey =
-        let a = (lowerOf c (record { doc = x; score = y })).doc in
-        let b = (lowerOf c (record { doc = x; score = y })).score in
+        let a = (lower_of c (record { doc = x; score = y })).doc in
+        let b = (lower_of c (record { doc = x; score = y })).score in
         let ps = front n ds₀ ss₀ in
         let p : drop i ps ≡ post x y ∷ drop (i + 1) ps = rw (ex, ey, same_at i ds₀ ds k.pastd, same_at i ss₀ ss k.pasts) (here-is n i ds₀ ss₀ ps l own_runs) in
         record {
@@ -288,15 +288,15 @@ module _ (d w n : ℕ) (ds₀ ss₀ : List ℕ) (o : Insertable d n ds₀ ss₀)
           most = omega arith;
           pastd = past_more ds₀ ds i a k.pastd;
           pasts = past_more ss₀ ss i b k.pasts;
-          carried = carry-turn d w n ds₀ ss₀ ds ss ps i x y c (omega (arith, o.roomy, k.alike.docids)) (omega (arith, o.wide, k.alike.scored)) p k.carried;
+          carried = carry_turn d w n ds₀ ss₀ ds ss ps i x y c (omega (arith, o.roomy, k.alike.docids)) (omega (arith, o.wide, k.alike.scored)) p k.carried;
         }
 
     -- the lower posting is put at i, the upper one is carried on
-    pub insert-turn : (x y : ℕ) (low up : Posting) → i < n → x ≡ get_or ds i 0 → y ≡ get_or ss i 0 → low ≡ lowerOf c (record { doc = x; score = y }) → up ≡ upperOf c (record { doc = x; score = y }) →
+    pub insert-turn : (x y : ℕ) (low up : Posting) → i < n → x ≡ get_or ds i 0 → y ≡ get_or ss i 0 → low ≡ lower_of c (record { doc = x; score = y }) → up ≡ upper_of c (record { doc = x; score = y }) →
         Inserting d w n ds₀ ss₀ (set ds i low.doc) (set ss i low.score) (i + 1) up
     insert-turn x y low up l ex ey el eu =
         subst (λ (u : Posting). Inserting d w n ds₀ ss₀ (set ds i low.doc) (set ss i low.score) (i + 1) u) (sym eu)
-        (subst (λ (v : Posting). Inserting d w n ds₀ ss₀ (set ds i v.doc) (set ss i v.score) (i + 1) (upperOf c (record { doc = x; score = y }))) (sym el) (turn-own x y l ex ey))
+        (subst (λ (v : Posting). Inserting d w n ds₀ ss₀ (set ds i v.doc) (set ss i v.score) (i + 1) (upper_of c (record { doc = x; score = y }))) (sym el) (turn-own x y l ex ey))
 
     pub insert-done : n ≤ i → Inserts d w n ds₀ ss₀ (n + 1) (set ds n c.doc) (set ss n c.score)
     insert-done h =
@@ -305,7 +305,7 @@ module _ (d w n : ℕ) (ds₀ ss₀ : List ℕ) (o : Insertable d n ds₀ ss₀)
         let g = k.carried in
         let short : length ps ≤ i = omega (arith, runs-length ds₀ ss₀ n ps own_runs) in
         let none : drop i ps ≡ [] = drop_of_length-le ps short in
-        let all : g.placed ++ (post c.doc c.score ∷ []) ≡ setPost d w ps = rw none at g.whole in
+        let all : g.placed ++ (post c.doc c.score ∷ []) ≡ set_post d w ps = rw none at g.whole in
         let dd : take n ds ≡ docs g.placed = rw z at g.docids in
         let dw : take n ss ≡ scores g.placed = rw z at g.scored in
         let pd : drop n ds ≡ drop n ds₀ = rw z at k.pastd in
@@ -313,18 +313,18 @@ module _ (d w n : ℕ) (ds₀ ss₀ : List ℕ) (o : Insertable d n ds₀ ss₀)
         let ld : n < length ds = omega (arith, o.roomy, k.alike.docids) in
         let lw : n < length ss = omega (arith, o.wide, k.alike.scored) in
         record {
-          docids = run_holds ds₀ (docs (setPost d w ps)) (set ds n c.doc) (n + 1) (simp length-set (omega arith))
+          docids = run_holds ds₀ (docs (set_post d w ps)) (set ds n c.doc) (n + 1) (simp length-set (omega arith))
               (front-more ds n c.doc ld ∙ rw (dd, ← all) (sym (docs-append g.placed (post c.doc c.score ∷ [])))) (past_more ds₀ ds n c.doc pd);
-          scored = run_holds ss₀ (scores (setPost d w ps)) (set ss n c.score) (n + 1) (simp length-set (omega arith))
+          scored = run_holds ss₀ (scores (set_post d w ps)) (set ss n c.score) (n + 1) (simp length-set (omega arith))
               (front-more ss n c.score lw ∙ rw (dw, ← all) (sym (scores-append g.placed (post c.doc c.score ∷ [])))) (past_more ss₀ ss n c.score pw);
         }
 
 -- the same for the postings that two runs are known to hold
-pub runs-insertable : {d n : ℕ} {ds ss : List ℕ} {ps : List Post} → Runs ds ss n ps → n < length ds → n < length ss → Rising 0 ps → has d (docs ps) ≡ false → Insertable d n ds ss
-runs-insertable {d} {n} {ds} {ss} {ps} k h l r f =
+pub runs_insertable : {d n : ℕ} {ds ss : List ℕ} {ps : List Post} → Runs ds ss n ps → n < length ds → n < length ss → Rising 0 ps → has d (docs ps) ≡ false → Insertable d n ds ss
+runs_insertable {d} {n} {ds} {ss} {ps} k h l r f =
     let e = runs-front ds ss n ps k in
     record { roomy = h; wide = l; rise = rw e r; free = rw e f }
 
-pub inserts-runs : {d w n r : ℕ} {ds ss ds' ss' : List ℕ} {ps : List Post} → Runs ds ss n ps → Inserts d w n ds ss r ds' ss' → Runs ds' ss' r (setPost d w ps)
-inserts-runs {d} {w} {n} {r} {ds} {ss} {ds'} {ss'} {ps} k c =
-    subst (λ (x : List Post). Runs ds' ss' r (setPost d w x)) (runs-front ds ss n ps k) (holds-runs (setPost d w (front n ds ss)) c.docids c.scored)
+pub inserts_runs : {d w n r : ℕ} {ds ss ds' ss' : List ℕ} {ps : List Post} → Runs ds ss n ps → Inserts d w n ds ss r ds' ss' → Runs ds' ss' r (set_post d w ps)
+inserts_runs {d} {w} {n} {r} {ds} {ss} {ds'} {ss'} {ps} k c =
+    subst (λ (x : List Post). Runs ds' ss' r (set_post d w x)) (runs-front ds ss n ps k) (holds-runs (set_post d w (front n ds ss)) c.docids c.scored)

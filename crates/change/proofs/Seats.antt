@@ -14,9 +14,9 @@ use Rattle.shelf.specs.Answers.{list_of}
 use Rattle.shelf.specs.declared.walk.Place.{Place}
 use Rattle.shelf.specs.declared.walk.ListRead.TheVariants.{Is, Not}
 use Rattle.shelf.proofs.Walks.{list-is, list-not, list-walked}
-use Rattle.change.specs.Seat.{seatOf}
+use Rattle.change.specs.Seat.{seat_of}
 use Rattle.change.specs.declared.seat.Seat.TheVariants.{Taken, Free}
-use Rattle.change.proofs.Pieces.{not_stopped, lists-nil, lists-inv, checked-sound}
+use Rattle.change.proofs.Pieces.{not_stopped, lists_nil, lists_inv, checked-sound}
 
 -- ---- a loop over the lists
 
@@ -29,9 +29,9 @@ pub record Turn (n : ℕ) (s : List ℕ) (rest : List Listing) (p : Place) : Typ
   pub left : lists (n - 1) (p.term + 1) p.next (drop p.next s) ≡ done more
 
 pub turn-of : (n floor at : ℕ) (s : List ℕ) (rest : List Listing) (p : Place) → lists n floor at (drop at s) ≡ done rest → at < length s → list_of (list floor at (drop at s)) ≡ Is p → Turn n s rest p
-turn-of n floor at s [] p e lt q = absurd (omega (arith, lists-nil n floor at s e))
+turn-of n floor at s [] p e lt q = absurd (omega (arith, lists_nil n floor at s e))
 turn-of n floor at s (l ∷ ms) p e lt q =
-    let i = lists-inv n floor at s l ms e in
+    let i = lists_inv n floor at s l ms e in
     let o = list-is (list floor at (drop at s)) p q in
     let same : l ≡ o.0 = let z : done l ≡ done o.0 = sym i.reads ∙ o.1 in cc in
     let at_p : l.place ≡ p = ap (λ (x : Listing). x.place) same ∙ o.2 in
@@ -57,38 +57,38 @@ pub record Seating (s : List ℕ) (t : ℕ) (ls : List Listing) (floor at : ℕ)
   pub most : ℕ
   pub rest : List Listing
   pub left : lists most floor at (drop at s) ≡ done rest
-  pub same : seatOf t at rest ≡ seatOf t 0 ls
+  pub same : seat_of t at rest ≡ seat_of t 0 ls
 
-pub seat-start : (s : List ℕ) (t : ℕ) (ls : List Listing) → checked s ≡ done ls → Seating s t ls 0 0
-seat-start s t ls e = record { most = 1024; rest = ls; left = (checked-sound s ls e).reads; same = refl }
+pub seat_start : (s : List ℕ) (t : ℕ) (ls : List Listing) → checked s ≡ done ls → Seating s t ls 0 0
+seat_start s t ls e = record { most = 1024; rest = ls; left = (checked-sound s ls e).reads; same = refl }
 
 module _ (s : List ℕ) (t : ℕ) (ls : List Listing) (floor at : ℕ) (c : Seating s t ls floor at) where
-  pub seat-end : length s ≤ at → Free at ≡ seatOf t 0 ls
-  seat-end h = go c.rest c.left c.same
+  pub seat_end : length s ≤ at → Free at ≡ seat_of t 0 ls
+  seat_end h = go c.rest c.left c.same
     where
-      go : (rest : List Listing) → lists c.most floor at (drop at s) ≡ done rest → seatOf t at rest ≡ seatOf t 0 ls → Free at ≡ seatOf t 0 ls
+      go : (rest : List Listing) → lists c.most floor at (drop at s) ≡ done rest → seat_of t at rest ≡ seat_of t 0 ls → Free at ≡ seat_of t 0 ls
       go [] e q = q
-      go (l ∷ ms) e q = absurd (omega (arith, (lists-inv c.most floor at s l ms e).inside))
+      go (l ∷ ms) e q = absurd (omega (arith, (lists_inv c.most floor at s l ms e).inside))
 
-  pub seat-never : {C : Type 0} → at < length s → (k o : ℕ) → list_of (list floor at (drop at s)) ≡ Not k o → C
-  seat-never lt k o q = absurd (not_stopped c.most floor at s c.rest c.left lt k o (list-not (list floor at (drop at s)) k o q))
+  pub seat_never : {C : Type 0} → at < length s → (k o : ℕ) → list_of (list floor at (drop at s)) ≡ Not k o → C
+  seat_never lt k o q = absurd (not_stopped c.most floor at s c.rest c.left lt k o (list-not (list floor at (drop at s)) k o q))
 
   module _ (p : Place) (lt : at < length s) (q : list_of (list floor at (drop at s)) ≡ Is p) where
-    turned : (m : Turn c.most s c.rest p) → seatOf t 0 ls ≡ cond (ltb t p.term) (Free at) (cond (eqb t p.term) (Taken p) (seatOf t p.next m.more))
-    turned m = sym c.same ∙ ap (λ (x : List Listing). seatOf t at x) m.is ∙ ap (λ (x : Place). cond (ltb t x.term) (Free at) (cond (eqb t x.term) (Taken x) (seatOf t x.next m.more))) m.place
+    turned : (m : Turn c.most s c.rest p) → seat_of t 0 ls ≡ cond (ltb t p.term) (Free at) (cond (eqb t p.term) (Taken p) (seat_of t p.next m.more))
+    turned m = sym c.same ∙ ap (λ (x : List Listing). seat_of t at x) m.is ∙ ap (λ (x : Place). cond (ltb t x.term) (Free at) (cond (eqb t x.term) (Taken x) (seat_of t x.next m.more))) m.place
 
-    pub seat-before : t < p.term → Free at ≡ seatOf t 0 ls
-    seat-before h =
+    pub seat_before : t < p.term → Free at ≡ seat_of t 0 ls
+    seat_before h =
         let m = turn-of c.most floor at s c.rest p c.left lt q in
         sym (turned m ∙ rw (lt-ltb t p.term h))
 
-    pub seat-here : t ≡ p.term → Taken p ≡ seatOf t 0 ls
-    seat-here h =
+    pub seat_here : t ≡ p.term → Taken p ≡ seat_of t 0 ls
+    seat_here h =
         let m = turn-of c.most floor at s c.rest p c.left lt q in
         sym (turned m ∙ rw (le-ltb t p.term (omega arith), eq-eqb t p.term h))
 
-    pub seat-on : p.term < t → Seating s t ls (p.term + 1) p.next
-    seat-on h =
+    pub seat_on : p.term < t → Seating s t ls (p.term + 1) p.next
+    seat_on h =
         let m = turn-of c.most floor at s c.rest p c.left lt q in
         record {
           most = c.most - 1;
@@ -114,7 +114,7 @@ module _ (s : List ℕ) (ls : List Listing) (floor at k : ℕ) (c : Counting s l
     where
       go : (rest : List Listing) → lists c.most floor at (drop at s) ≡ done rest → k + length rest ≡ length ls → k ≡ length ls
       go [] e q = omega arith
-      go (l ∷ ms) e q = absurd (omega (arith, (lists-inv c.most floor at s l ms e).inside))
+      go (l ∷ ms) e q = absurd (omega (arith, (lists_inv c.most floor at s l ms e).inside))
 
   pub count-never : {C : Type 0} → at < length s → (n o : ℕ) → list_of (list floor at (drop at s)) ≡ Not n o → C
   count-never lt n o q = absurd (not_stopped c.most floor at s c.rest c.left lt n o (list-not (list floor at (drop at s)) n o q))

@@ -1,13 +1,13 @@
 -- What an edit does to the bytes of a shelf, or why it is refused: for every shelf and every edit. Assumes nothing.
 use Rattle.std.specs.Prelude.{ℕ, ◌-◌, List, [], ◌∷◌, ◌++◌, map, Bool, true, false, cond, ◌&&◌, ◌||◌, leb, ltb, eqb, length, take, drop}
-use Rattle.model.specs.Limits.{maxDocid, maxScore, maxPostings, maxLists, maxShelf}
+use Rattle.model.specs.Limits.{max_docid, max_score, max_postings, max_lists, max_shelf}
 use Rattle.model.specs.Outcome.{Outcome, refused, done, and_then}
 use Rattle.model.specs.Post.{Post, post, docs}
 use Rattle.model.specs.Runs.{has}
-use Rattle.shelf.specs.Walk.{Listing, postsOf, stripOf}
+use Rattle.shelf.specs.Walk.{Listing, posts_of, strip_of}
 use Rattle.shelf.specs.Check.{checked}
-use Rattle.list.specs.Write.{Word, listBytes}
-use Rattle.change.specs.Edits.{Edit, Set, Clear, Withdraw, setPost, clearPost, word, only, every}
+use Rattle.list.specs.Write.{Word, list_bytes}
+use Rattle.change.specs.Edits.{Edit, Set, Clear, Withdraw, set_post, clear_post, word, only, every}
 
 -- ---- a shelf as pieces
 
@@ -19,7 +19,7 @@ pub record Piece : Type 0 where
   pub bytes : List ℕ
 
 abbrev pub piece_of : List ℕ → Listing → Piece
-piece_of s l = record { term = l.place.term; posts = postsOf l.blocks; strip = stripOf l.blocks; bytes = take (l.place.next - l.place.at) (drop l.place.at s) }
+piece_of s l = record { term = l.place.term; posts = posts_of l.blocks; strip = strip_of l.blocks; bytes = take (l.place.next - l.place.at) (drop l.place.at s) }
 
 abbrev pub pieces : List ℕ → List Listing → List Piece
 pieces s [] = []
@@ -38,62 +38,62 @@ contents (x ∷ xs) = word x.strip x.term x.posts ∷ contents xs
 
 -- "packed anew as by the writer", in a layout
 abbrev pub anew : Bool → ℕ → List Post → Piece
-anew strip t ps = record { term = t; posts = ps; strip = strip; bytes = listBytes strip t ps }
+anew strip t ps = record { term = t; posts = ps; strip = strip; bytes = list_bytes strip t ps }
 
 -- "Each list that changes, and the list named in a set, is packed anew"; "an edit keeps a list's tag and a new list gets 03"
-abbrev pub setPiece : (t d w : ℕ) → List Piece → List Piece
-setPiece t d w [] = anew false t (post d w ∷ []) ∷ []
-setPiece t d w (x ∷ xs) =
+abbrev pub set_piece : (t d w : ℕ) → List Piece → List Piece
+set_piece t d w [] = anew false t (post d w ∷ []) ∷ []
+set_piece t d w (x ∷ xs) =
     cond (ltb t x.term) (anew false t (post d w ∷ []) ∷ x ∷ xs)
-    (cond (eqb t x.term) (anew x.strip t (setPost d w x.posts) ∷ xs)
-    (x ∷ setPiece t d w xs))
+    (cond (eqb t x.term) (anew x.strip t (set_post d w x.posts) ∷ xs)
+    (x ∷ set_piece t d w xs))
 
 -- "a list left without postings goes"
-abbrev pub anewUnlessEmpty : (strip : Bool) (t : ℕ) → List Post → List Piece → List Piece
-anewUnlessEmpty strip t [] xs = xs
-anewUnlessEmpty strip t (p ∷ ps) xs = anew strip t (p ∷ ps) ∷ xs
+abbrev pub anew_unless_empty : (strip : Bool) (t : ℕ) → List Post → List Piece → List Piece
+anew_unless_empty strip t [] xs = xs
+anew_unless_empty strip t (p ∷ ps) xs = anew strip t (p ∷ ps) ∷ xs
 
 -- a list whose term is named and that holds docid d
 abbrev pub holds : (named : ℕ → Bool) (d : ℕ) → Piece → Bool
 holds named d x = named x.term && has d (docs x.posts)
 
-abbrev pub clearPieces : (named : ℕ → Bool) (d : ℕ) → List Piece → List Piece
-clearPieces named d [] = []
-clearPieces named d (x ∷ xs) =
-    cond (holds named d x) (anewUnlessEmpty x.strip x.term (clearPost d x.posts) (clearPieces named d xs)) (x ∷ clearPieces named d xs)
+abbrev pub clear_pieces : (named : ℕ → Bool) (d : ℕ) → List Piece → List Piece
+clear_pieces named d [] = []
+clear_pieces named d (x ∷ xs) =
+    cond (holds named d x) (anew_unless_empty x.strip x.term (clear_post d x.posts) (clear_pieces named d xs)) (x ∷ clear_pieces named d xs)
 
 unfoldable pub changed : Edit → List Piece → List Piece
-changed (Set t d w) xs = setPiece t d w xs
-changed (Clear t d) xs = clearPieces (only t) d xs
-changed (Withdraw d) xs = clearPieces every d xs
+changed (Set t d w) xs = set_piece t d w xs
+changed (Clear t d) xs = clear_pieces (only t) d xs
+changed (Withdraw d) xs = clear_pieces every d xs
 
 -- ---- which lists it packs anew
 
 -- the bytes of the list of term u, and its postings; none where there is no such list
-abbrev pub bytesFor : ℕ → List Piece → List ℕ
-bytesFor u [] = []
-bytesFor u (x ∷ xs) = cond (eqb u x.term) x.bytes (bytesFor u xs)
+abbrev pub bytes_for : ℕ → List Piece → List ℕ
+bytes_for u [] = []
+bytes_for u (x ∷ xs) = cond (eqb u x.term) x.bytes (bytes_for u xs)
 
-abbrev pub postsFor : ℕ → List Piece → List Post
-postsFor u [] = []
-postsFor u (x ∷ xs) = cond (eqb u x.term) x.posts (postsFor u xs)
+abbrev pub posts_for : ℕ → List Piece → List Post
+posts_for u [] = []
+posts_for u (x ∷ xs) = cond (eqb u x.term) x.posts (posts_for u xs)
 
 -- "Each list that changes, and the list named in a set"
 abbrev pub repacks : Edit → ℕ → List Piece → Bool
 repacks (Set t d w) u xs = only t u
-repacks (Clear t d) u xs = only t u && has d (docs (postsFor u xs))
-repacks (Withdraw d) u xs = has d (docs (postsFor u xs))
+repacks (Clear t d) u xs = only t u && has d (docs (posts_for u xs))
+repacks (Withdraw d) u xs = has d (docs (posts_for u xs))
 
 -- ---- the refusals: "Edits 10, 6/7, 8 (whole shelf), 12, 11, 9"
 
 -- not 10: "docid or score out of range"
-abbrev pub docidIn : ℕ → Bool
-docidIn d = ltb 0 d && leb d maxDocid
+abbrev pub docid_in : ℕ → Bool
+docid_in d = ltb 0 d && leb d max_docid
 
 abbrev pub in_range : Edit → Bool
-in_range (Set t d w) = docidIn d && (ltb 0 w && leb w maxScore)
-in_range (Clear t d) = docidIn d
-in_range (Withdraw d) = docidIn d
+in_range (Set t d w) = docid_in d && (ltb 0 w && leb w max_score)
+in_range (Clear t d) = docid_in d
+in_range (Withdraw d) = docid_in d
 
 -- not 12: "list, block or posting not there; a withdrawn docid in no list"
 abbrev pub some : (Piece → Bool) → List Piece → Bool
@@ -108,10 +108,10 @@ there (Withdraw d) xs = some (holds every d) xs
 -- not 11: "result would pass 6,400 postings, 1,024 lists or 1,048,576 bytes"
 abbrev pub few : List Piece → Bool
 few [] = true
-few (x ∷ xs) = leb (length x.posts) maxPostings && few xs
+few (x ∷ xs) = leb (length x.posts) max_postings && few xs
 
 unfoldable pub within : List Piece → Bool
-within xs = few xs && (leb (length xs) maxLists && leb (length (joined xs)) maxShelf)
+within xs = few xs && (leb (length xs) max_lists && leb (length (joined xs)) max_shelf)
 
 -- 12, 11, 9, in that order, for the pieces of a sound shelf and a buffer of `room` bytes
 unfoldable pub settled : Edit → List Piece → (room : ℕ) → Outcome (List ℕ)

@@ -2,7 +2,7 @@
 use Rattle.std.specs.Prelude.{ℕ, ◌<◌, ◌≡◌, List, cond, false, ltb, length, take}
 use Rattle.model.specs.Post.{Post, postings, docs, scores, Rising}
 use Rattle.model.specs.Runs.{has, Holds}
-use Rattle.change.specs.Edits.{setPost, clearPost}
+use Rattle.change.specs.Edits.{set_post, clear_post}
 use Rattle.change.specs.declared.runs.Posting.{Posting}
 
 -- the first n postings of two runs
@@ -11,8 +11,8 @@ front n ds ss = postings (take n ds) (take n ss)
 
 -- a docid was taken out of them: those that stay are in front, and what lies past them is as it was
 pub record Clears (d n : ℕ) (ds ss : List ℕ) (r : ℕ) (ds' ss' : List ℕ) : Type 0 where
-  pub docids : Holds ds (docs (clearPost d (front n ds ss))) ds' r
-  pub scored : Holds ss (scores (clearPost d (front n ds ss))) ss' r
+  pub docids : Holds ds (docs (clear_post d (front n ds ss))) ds' r
+  pub scored : Holds ss (scores (clear_post d (front n ds ss))) ss' r
 
 -- there is room for one more, and they rise and do not hold docid d
 pub record Insertable (d n : ℕ) (ds ss : List ℕ) : Type 0 where
@@ -23,12 +23,12 @@ pub record Insertable (d n : ℕ) (ds ss : List ℕ) : Type 0 where
 
 -- a posting was put in among them, and what lies past them is as it was
 pub record Inserts (d w n : ℕ) (ds ss : List ℕ) (r : ℕ) (ds' ss' : List ℕ) : Type 0 where
-  pub docids : Holds ds (docs (setPost d w (front n ds ss))) ds' r
-  pub scored : Holds ss (scores (setPost d w (front n ds ss))) ss' r
+  pub docids : Holds ds (docs (set_post d w (front n ds ss))) ds' r
+  pub scored : Holds ss (scores (set_post d w (front n ds ss))) ss' r
 
 -- of two postings the one of the lesser docid, and the other
-abbrev pub lowerOf : Posting → Posting → Posting
-lowerOf a b = cond (ltb a.doc b.doc) a b
+abbrev pub lower_of : Posting → Posting → Posting
+lower_of a b = cond (ltb a.doc b.doc) a b
 
-abbrev pub upperOf : Posting → Posting → Posting
-upperOf a b = cond (ltb a.doc b.doc) b a
+abbrev pub upper_of : Posting → Posting → Posting
+upper_of a b = cond (ltb a.doc b.doc) b a

@@ -1,6 +1,6 @@
 // One posting put into two runs, or taken out of them, in place.
 ghost use Rattle.std.specs.Prelude.{◌≡◌, ◌≤◌, length};
-ghost use Rattle.change.specs.Runs.{Clears, Insertable, Inserts, lowerOf, upperOf};
+ghost use Rattle.change.specs.Runs.{Clears, Insertable, Inserts, lower_of, upper_of};
 
 // Takes the posting of a docid out of the first `n` of two runs, and gives how many are left.
 pub fn without(docs: &mut [u32], scores: &mut [u16], n: usize, d: u32) -> usize
@@ -31,13 +31,13 @@ pub struct Posting {
 
 // Of two postings the one of the lesser docid, and the other.
 fn lower(a: Posting, b: Posting) -> Posting
-    ensures { result ≡ lowerOf a b }
+    ensures { result ≡ lower_of a b }
 {
     if a.doc < b.doc { a } else { b }
 }
 
 fn upper(a: Posting, b: Posting) -> Posting
-    ensures { result ≡ upperOf a b }
+    ensures { result ≡ upper_of a b }
 {
     if a.doc < b.doc { b } else { a }
 }

@@ -3,7 +3,7 @@ ghost use Rattle.std.specs.Prelude.{◌≡◌, List, length};
 ghost use Rattle.model.specs.Outcome.{done};
 ghost use Rattle.shelf.specs.Walk.{Listing};
 ghost use Rattle.shelf.specs.Check.{checked};
-ghost use Rattle.change.specs.Seat.{Sounds, seatOf, Fills, Held, stripBy, Stood};
+ghost use Rattle.change.specs.Seat.{Sounds, seat_of, Fills, Held, strip_by, Stood};
 
 use shelf::walk::{ListRead, Place};
 
@@ -17,7 +17,7 @@ pub enum Seat {
 // The seat of a term in a sound shelf.
 pub fn find_seat(s: &[u8], term: u32) -> Seat
     requires { Sounds s.now }
-    ensures { (ls : List Listing) → checked s.now ≡ done ls → result ≡ seatOf term 0 ls }
+    ensures { (ls : List Listing) → checked s.now ≡ done ls → result ≡ seat_of term 0 ls }
 {
     let mut at: usize = 0;
     let mut floor: u64 = 0;
@@ -78,7 +78,7 @@ pub fn held(s: &[u8], seat: Seat, docs: &mut [u32], scores: &mut [u16]) -> usize
 // The layout of a seat's list; that of a new one where there is none.
 pub fn strip_of(s: &[u8], seat: Seat) -> bool
     requires { Stood seat }
-    ensures { result ≡ stripBy s.now seat }
+    ensures { result ≡ strip_by s.now seat }
 {
     match seat {
         Seat::Taken(p) => block::body::is_strip(s, p.at + 8 + 12 * (p.count as usize)),

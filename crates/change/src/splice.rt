@@ -1,17 +1,17 @@
 // A shelf with one list in place of another: the bytes before it and after it as they stand.
 ghost use Rattle.std.specs.Prelude.{◌≡◌, Bool, ℕ, ◌+◌, ◌≤◌, length};
-ghost use Rattle.model.specs.Limits.{maxShelf};
+ghost use Rattle.model.specs.Limits.{max_shelf};
 ghost use Rattle.model.specs.Post.{postings};
 ghost use Rattle.model.specs.Runs.{Stored};
 ghost use Rattle.list.specs.Answer.{Gives};
-ghost use Rattle.change.specs.Seat.{packedBytes, spliced, fitting, May};
+ghost use Rattle.change.specs.Seat.{packed_bytes, spliced, fitting, May};
 
 use list::answer::Answer;
 
 // How many bytes a list of these postings takes, in either layout: none without postings.
 pub fn new_len(docs: &[u32], scores: &[u16]) -> usize
     requires { May docs.now scores.now }
-    ensures { (strip : Bool) (t : ℕ) → result ≡ length (packedBytes strip t (postings docs.now scores.now)) }
+    ensures { (strip : Bool) (t : ℕ) → result ≡ length (packed_bytes strip t (postings docs.now scores.now)) }
 {
     if docs.len() == 0 {
         return 0;
@@ -28,8 +28,8 @@ pub fn put_new(
     docs: &[u32],
     scores: &[u16],
 ) -> usize
-    requires { May docs.now scores.now × (at + length (packedBytes strip term (postings docs.now scores.now)) ≤ length out.old) }
-    ensures { Stored out.old out.new at result (packedBytes strip term (postings docs.now scores.now)) }
+    requires { May docs.now scores.now × (at + length (packed_bytes strip term (postings docs.now scores.now)) ≤ length out.old) }
+    ensures { Stored out.old out.new at result (packed_bytes strip term (postings docs.now scores.now)) }
 {
     if docs.len() == 0 {
         return at;
@@ -48,8 +48,8 @@ pub(crate) fn splice(
     scores: &[u16],
     out: &mut [u8],
 ) -> Answer
-    requires { (at ≤ next) × (next ≤ length s.now) × (length s.now ≤ maxShelf) × May docs.now scores.now }
-    ensures { Gives (fitting (spliced s.now at next (packedBytes strip term (postings docs.now scores.now))) (length out.old)) out.old out.new result }
+    requires { (at ≤ next) × (next ≤ length s.now) × (length s.now ≤ max_shelf) × May docs.now scores.now }
+    ensures { Gives (fitting (spliced s.now at next (packed_bytes strip term (postings docs.now scores.now))) (length out.old)) out.old out.new result }
 {
     let end = s.len();
     let total = at + new_len(docs, scores) + (end - next);

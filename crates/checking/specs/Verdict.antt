@@ -2,12 +2,12 @@
 use Rattle.std.specs.Prelude.{ℕ, List}
 use Rattle.model.specs.Outcome.{Outcome, refused, done}
 use Rattle.shelf.specs.Check.{checked, judged}
-use Rattle.lines.specs.Text.{codes, refusalLine}
+use Rattle.lines.specs.Text.{codes, refusal_line}
 
-abbrev pub verdictText : Outcome (Unit {0}) → List ℕ
-verdictText (refused number offset) = refusalLine number offset
-verdictText (done tt) = codes "sound\n"
+abbrev pub verdict_text : Outcome (Unit {0}) → List ℕ
+verdict_text (refused number offset) = refusal_line number offset
+verdict_text (done tt) = codes "sound\n"
 
 -- "A shelf is sound when the checker finds nothing."
-unfoldable pub checkedText : List ℕ → List ℕ
-checkedText s = verdictText (judged (checked s))
+unfoldable pub checked_text : List ℕ → List ℕ
+checked_text s = verdict_text (judged (checked s))

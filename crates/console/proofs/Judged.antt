@@ -9,7 +9,7 @@ use lib.IntN.{ℤ, pos, negsuc, nat_abs}
 use lib.Signed.{lt_z, non_neg}
 use Rattle.console.specs.declared.call.Call.{Call}
 use Rattle.console.specs.declared.call.Call.TheVariants.{Moved, Ended, Again, Failed}
-use Rattle.console.specs.Calls.{errorOf, call_of, sentOf, Moving}
+use Rattle.console.specs.Calls.{error_of, call_of, sent_of, Moving}
 
 pub above_zero : (z : ℤ) → lt_z (pos 0) z ≡ true → T (non_neg z)
 above_zero (pos n) e = tt
@@ -20,17 +20,17 @@ module _ (e : ℤ) (room : ℕ) where
   unfolding call_of
   moved_by n m h f = rw (ne_eqb n 0 (λ z. omega arith), f)
 
-  pub judge-less : (z : ℤ) → lt_z (pos 0) z ≡ true → nat_abs z < room → Moved (nat_abs z) ≡ call_of z e room
+  pub judge_less : (z : ℤ) → lt_z (pos 0) z ≡ true → nat_abs z < room → Moved (nat_abs z) ≡ call_of z e room
   unfolding call_of
-  judge-less (pos n) t h = let l : 0 < n = ltb-true 0 n t in moved_by n n l (omega arith)
-  judge-less (negsuc n) t h = absurd (false≢true t)
+  judge_less (pos n) t h = let l : 0 < n = ltb-true 0 n t in moved_by n n l (omega arith)
+  judge_less (negsuc n) t h = absurd (false≢true t)
 
   pub judge-most : (z : ℤ) → lt_z (pos 0) z ≡ true → room ≤ nat_abs z → Moved room ≡ call_of z e room
   unfolding call_of
   judge-most (pos n) t h = let l : 0 < n = ltb-true 0 n t in moved_by n room l (omega arith)
   judge-most (negsuc n) t h = absurd (false≢true t)
 
-  pub judge-error : (z : ℤ) (x : Call) → lt_z z (pos 0) ≡ true → x ≡ errorOf e → x ≡ call_of z e room
+  pub judge-error : (z : ℤ) (x : Call) → lt_z z (pos 0) ≡ true → x ≡ error_of e → x ≡ call_of z e room
   unfolding call_of
   judge-error (pos n) x t f = let l : n < 0 = ltb-true n 0 t in absurd (omega arith)
   judge-error (negsuc n) x t f = f
@@ -42,22 +42,22 @@ module _ (e : ℤ) (room : ℕ) where
 
 -- ---- the error, by its test
 
-pub again : (e : ℤ) → e ≡ pos 4 → Again ≡ errorOf e
+pub again : (e : ℤ) → e ≡ pos 4 → Again ≡ error_of e
 again e f = rw f
 
-pub fails : (e : ℤ) → (e ≡ pos 4 → ⊥) → Failed ≡ errorOf e
+pub fails : (e : ℤ) → (e ≡ pos 4 → ⊥) → Failed ≡ error_of e
 fails (pos n) f = rw (ne_eqb n 4 (λ z. f (ap pos z)))
 fails (negsuc n) f = refl
 
 -- ---- what a call moves, where there is room for something
 
-moving-error : (e : ℤ) (room : ℕ) → Moving (errorOf e) room
-moving-error (pos n) room = go (eqb n 4)
+moving_error : (e : ℤ) (room : ℕ) → Moving (error_of e) room
+moving_error (pos n) room = go (eqb n 4)
   where
     go : (b : _) → Moving (cond b Again Failed) room
     go true = tt
     go false = tt
-moving-error (negsuc n) room = tt
+moving_error (negsuc n) room = tt
 
 moving : (z e : ℤ) (room : ℕ) → 0 < room → Moving (call_of z e room) room
 unfolding call_of
@@ -66,16 +66,16 @@ moving (pos n) e room h = go (eqb n 0) refl
     go : (b : _) → eqb n 0 ≡ b → Moving (cond b Ended (Moved (min n room))) room
     go true f = tt
     go false f = let l : (n ≡ 0 → ⊥) = eqb-false n 0 f in (omega arith, omega arith)
-moving (negsuc n) e room h = moving-error e room
+moving (negsuc n) e room h = moving_error e room
 
 -- what was judged, and what was sent
-pub moving-judged : (z e : ℤ) (room : ℕ) (r : Call) → 0 < room → r ≡ call_of z e room → Moving r room
-moving-judged z e room r h f = rw f (moving z e room h)
+pub moving_judged : (z e : ℤ) (room : ℕ) (r : Call) → 0 < room → r ≡ call_of z e room → Moving r room
+moving_judged z e room r h f = rw f (moving z e room h)
 
-pub moving-sent : (x : Call) (room : ℕ) (r : Call) → Moving x room → r ≡ sentOf x → Moving r room
-moving-sent x room r h f = rw f (go x h)
+pub moving_sent : (x : Call) (room : ℕ) (r : Call) → Moving x room → r ≡ sent_of x → Moving r room
+moving_sent x room r h f = rw f (go x h)
   where
-    go : (y : Call) → Moving y room → Moving (sentOf y) room
+    go : (y : Call) → Moving y room → Moving (sent_of y) room
     go (Moved n) m = m
     go Ended m = tt
     go Again m = tt

@@ -34,18 +34,18 @@ abbrev OnTo : (moved tries room : ℕ) → Next → Type 0
 OnTo moved tries room (On m left) = Turned moved tries room m left
 OnTo moved tries room (Over g) = Unit {0}
 
-on-to : (x : Call) (moved tries room : ℕ) → Moving x room → OnTo moved tries room (next_of x moved tries)
-on-to (Moved n) moved tries room m = record { within = omega (arith, m.1); less = omega (arith, m.0) }
-on-to Ended moved tries room m = tt
-on-to Again moved tries room m = go (eqb tries 0) refl
+on_to : (x : Call) (moved tries room : ℕ) → Moving x room → OnTo moved tries room (next_of x moved tries)
+on_to (Moved n) moved tries room m = record { within = omega (arith, m.1); less = omega (arith, m.0) }
+on_to Ended moved tries room m = tt
+on_to Again moved tries room m = go (eqb tries 0) refl
   where
     go : (b : _) → eqb tries 0 ≡ b → OnTo moved tries room (cond b (Over broken) (On moved (tries - 1)))
     go true e = tt
     go false e = let l : (tries ≡ 0 → ⊥) = eqb-false tries 0 e in record { within = omega arith; less = omega arith }
-on-to Failed moved tries room m = tt
+on_to Failed moved tries room m = tt
 
 pub turned : (x : Call) (moved tries room m left : ℕ) → Moving x room → next_of x moved tries ≡ On m left → Turned moved tries room m left
-turned x moved tries room m left h e = subst (OnTo moved tries room) e (on-to x moved tries room h)
+turned x moved tries room m left h e = subst (OnTo moved tries room) e (on_to x moved tries room h)
 
 -- where it is over: all bytes that were moved, or none
 abbrev OverTo : List ℕ → Next → Type 0
@@ -58,15 +58,15 @@ read-broken run = record { within = omega arith; part = sym (length-take-le 0 ru
 pub read-wholly : (run : List ℕ) (n : ℕ) → n ≤ length run → Read run (wholly n)
 read-wholly run n h = record { within = h; part = sym (length-take-le n run h); failed = λ e. let z : ◌≡◌ {A = ℕ} 0 1 = cc in absurd (omega arith) }
 
-over-to : (run : List ℕ) (x : Call) (moved tries : ℕ) → moved ≤ length run → OverTo run (next_of x moved tries)
-over-to run (Moved n) moved tries h = tt
-over-to run Ended moved tries h = read-wholly run moved h
-over-to run Again moved tries h = go (eqb tries 0)
+over_to : (run : List ℕ) (x : Call) (moved tries : ℕ) → moved ≤ length run → OverTo run (next_of x moved tries)
+over_to run (Moved n) moved tries h = tt
+over_to run Ended moved tries h = read-wholly run moved h
+over_to run Again moved tries h = go (eqb tries 0)
   where
     go : (b : _) → OverTo run (cond b (Over broken) (On moved (tries - 1)))
     go true = read-broken run
     go false = tt
-over-to run Failed moved tries h = read-broken run
+over_to run Failed moved tries h = read-broken run
 
 pub over : (run : List ℕ) (x : Call) (moved tries : ℕ) (g : Got) → moved ≤ length run → next_of x moved tries ≡ Over g → Read run g
-over run x moved tries g h e = subst (OverTo run) e (over-to run x moved tries h)
+over run x moved tries g h e = subst (OverTo run) e (over_to run x moved tries h)

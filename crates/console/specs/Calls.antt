@@ -11,21 +11,21 @@ use Rattle.console.specs.declared.call.Next.TheVariants.{On, Over}
 abbrev pub interrupted : ℕ
 interrupted = 4
 
-abbrev pub errorOf : ℤ → Call
-errorOf (pos e) = cond (eqb e interrupted) Again Failed
-errorOf (negsuc e) = Failed
+abbrev pub error_of : ℤ → Call
+error_of (pos e) = cond (eqb e interrupted) Again Failed
+error_of (negsuc e) = Failed
 
 -- above 0: bytes were moved, and no more than there was room for; 0: the end; below 0: by the error
 unfoldable pub call_of : (got error : ℤ) (room : ℕ) → Call
 call_of (pos n) e room = cond (eqb n 0) Ended (Moved (min n room))
-call_of (negsuc n) e room = errorOf e
+call_of (negsuc n) e room = error_of e
 
 -- a write that moves nothing has failed
-abbrev pub sentOf : Call → Call
-sentOf (Moved n) = Moved n
-sentOf Ended = Failed
-sentOf Again = Again
-sentOf Failed = Failed
+abbrev pub sent_of : Call → Call
+sent_of (Moved n) = Moved n
+sent_of Ended = Failed
+sent_of Again = Again
+sent_of Failed = Failed
 
 -- all bytes are there, or none counts
 abbrev pub wholly : ℕ → Got

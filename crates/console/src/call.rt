@@ -1,6 +1,6 @@
 // What a call of the system answered, and what comes of it.
 ghost use Rattle.std.specs.Prelude.{◌≡◌};
-ghost use Rattle.console.specs.Calls.{call_of, sentOf, next_of, Countable};
+ghost use Rattle.console.specs.Calls.{call_of, sent_of, next_of, Countable};
 
 use libc::EINTR;
 
@@ -35,7 +35,7 @@ pub(crate) fn judge(got: isize, error: i32, room: usize) -> Call
 
 // A write that moves nothing has failed: output has no end.
 pub(crate) fn sent(call: Call) -> Call
-    ensures { result ≡ sentOf call }
+    ensures { result ≡ sent_of call }
 {
     match call {
         Call::Moved(n) => Call::Moved(n),

@@ -4,13 +4,13 @@ ghost use Rattle.std.specs.Prelude.{◌≡◌, List, not, ◌+◌, ◌*◌, ◌�
 ghost use Rattle.std.proofs.lemmas.List.Edits.{sets};
 ghost use Rattle.model.specs.Outcome.{done};
 ghost use Rattle.model.specs.Runs.{Stored};
-ghost use Rattle.wire.specs.Field.{fieldBytes};
-ghost use Rattle.block.specs.Body.{tagOf, bodyBytes, bodyRun};
-ghost use Rattle.shelf.specs.Walk.{Listing, blocksAt};
+ghost use Rattle.wire.specs.Field.{field_bytes};
+ghost use Rattle.block.specs.Body.{tag_of, body_bytes, body_run};
+ghost use Rattle.shelf.specs.Walk.{Listing, blocks_at};
 ghost use Rattle.shelf.specs.Check.{checked};
 ghost use Rattle.list.specs.Answer.{Gives};
 ghost use Rattle.change.specs.Seat.{Sounds};
-ghost use Rattle.convert.specs.Convert.{turning, converted, turnedBodies, Turns, Turnable};
+ghost use Rattle.convert.specs.Convert.{turning, converted, turned_bodies, Turns, Turnable};
 
 use block::summary::Summary;
 use change::seat::Seat;
@@ -22,7 +22,7 @@ use shelf::walk::Place;
 // A right body in the other layout, as a field at a place that has room; gives the place past it.
 fn turn_body(body: &[u8], m: Summary, out: &mut [u8], at: usize) -> usize
     requires { Turns m body.now × (at + 3 + length body.now ≤ length out.old) }
-    ensures { Stored out.old out.new at result (fieldBytes (tagOf (not m.strip)) (bodyBytes (not m.strip) (bodyRun m body.now))) }
+    ensures { Stored out.old out.new at result (field_bytes (tag_of (not m.strip)) (body_bytes (not m.strip) (body_run m body.now))) }
 {
     let mut docs = [0u32; 100];
     let mut scores = [0u16; 100];
@@ -34,7 +34,7 @@ fn turn_body(body: &[u8], m: Summary, out: &mut [u8], at: usize) -> usize
 // All bodies of a list of a sound shelf, written over at their places.
 fn turn_bodies(s: &[u8], list: Place, out: &mut [u8])
     requires { Turnable s.now list out.old }
-    ensures { out.new ≡ sets out.old (list.at + 8 + 12 * list.count) (turnedBodies (blocksAt s.now list.at list.count)) }
+    ensures { out.new ≡ sets out.old (list.at + 8 + 12 * list.count) (turned_bodies (blocks_at s.now list.at list.count)) }
 {
     let mut r = Reading::new(list);
     loop {

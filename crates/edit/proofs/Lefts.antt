@@ -8,35 +8,35 @@ use borrow.Author.Tests.{le-leb, lt-leb, leb-true}
 use lib.Dec.{leb}
 use lib.ListN.{length, take, drop, length-append, length-drop}
 use lib.Seq.{length-take-le}
-use Rattle.model.specs.Limits.{maxPostings, maxLists, maxShelf}
+use Rattle.model.specs.Limits.{max_postings, max_lists, max_shelf}
 use Rattle.model.specs.Outcome.{refused, done}
 use Rattle.model.specs.Post.{Post, postings, docs, scores}
 use Rattle.model.specs.Runs.{has, Stored, Bytes}
-use Rattle.model.proofs.Lists.{split, or-false, or_assoc}
+use Rattle.model.proofs.Lists.{split, or_false, or_assoc}
 use Rattle.model.proofs.Storing.{Rest, rest-start, rest-turn, rest_end, rest-room}
-use Rattle.shelf.specs.Walk.{Listing, list, lists, postsOf, blocksAt, stripOf}
-use Rattle.shelf.specs.Check.{badBody, badLists, checked}
+use Rattle.shelf.specs.Walk.{Listing, list, lists, posts_of, blocks_at, strip_of}
+use Rattle.shelf.specs.Check.{bad_body, bad_lists, checked}
 use Rattle.shelf.specs.Answers.{list_of}
 use Rattle.shelf.specs.declared.walk.Place.{Place}
 use Rattle.shelf.specs.declared.walk.ListRead.TheVariants.{Is, Not}
 use Rattle.shelf.specs.declared.check.BadRead.TheVariants.{NoBad}
 use Rattle.shelf.proofs.Walks.{list-is, list-not, list-walked}
-use Rattle.shelf.proofs.Sounds.{or-none}
+use Rattle.shelf.proofs.Sounds.{or_none}
 use Rattle.list.specs.Write.{Writable, Words, words_of}
 use Rattle.list.specs.Fill.{Filled}
 use Rattle.list.proofs.Pours.{right-count}
 use Rattle.list.proofs.Shelves.{sound-words}
-use Rattle.change.specs.Edits.{Withdraw, clearPost, every}
-use Rattle.change.specs.Bytes.{Piece, piece_of, pieces, joined, holds, clearPieces, changed, some, there, few, settled}
+use Rattle.change.specs.Edits.{Withdraw, clear_post, every}
+use Rattle.change.specs.Bytes.{Piece, piece_of, pieces, joined, holds, clear_pieces, changed, some, there, few, settled}
 use Rattle.change.specs.Runs.{Clears}
-use Rattle.change.specs.Seat.{packedBytes, fitting, May, Wide}
-use Rattle.edit.specs.Left.{postsAt, layoutAt, Sought, Sized, leftBytes, LeftOf, Measures}
+use Rattle.change.specs.Seat.{packed_bytes, fitting, May, Wide}
+use Rattle.edit.specs.Left.{posts_at, layout_at, Sought, Sized, left_bytes, LeftOf, Measures}
 use Rattle.edit.specs.declared.withdraw.Left.{Left}
 use Rattle.change.proofs.Postings.{may-fit, clear-fit, clear-length}
-use Rattle.change.proofs.Runnings.{Runs, postings-own, clears-runs}
-use Rattle.change.proofs.Pieces.{not_stopped, lists-nil, lists-inv, checked-sound, sound-lists, sound-rises}
+use Rattle.change.proofs.Runnings.{Runs, postings-own, clears_runs}
+use Rattle.change.proofs.Pieces.{not_stopped, lists_nil, lists_inv, checked-sound, sound-lists, sound-rises}
 use Rattle.edit.proofs.Changes.{rises-few}
-use Rattle.edit.proofs.Splices.{settled-none, settled-as, joined-unless, few-unless, length-unless, pieces-length, few-front}
+use Rattle.edit.proofs.Splices.{settled-none, settled_as, joined-unless, few-unless, length-unless, pieces-length, few-front}
 use Rattle.change.proofs.News.{held-taken, held-runs, new-small}
 use Rattle.edit.proofs.Sittings.{firsts, runs-postings, runs-may}
 
@@ -46,58 +46,58 @@ pub left-sought : {s : List ℕ} {p : Place} {ds ss : List ℕ} → Sized s p ds
 left-sought z = record { ready = z.fills.ready; right = z.fills.right; rise = z.may.rise }
 
 module _ {s : List ℕ} {p : Place} {n : ℕ} {ds ss d1 s1 : List ℕ} (z : Sized s p ds ss) (f : Filled s p ds ss d1 s1 n) where
-  pub left-held : Runs d1 s1 n (postsAt s p)
+  pub left-held : Runs d1 s1 n (posts_at s p)
   left-held = held-runs (held-taken s p ds ss d1 s1 n z.fills f)
 
   module _ {d m : ℕ} {d2 s2 : List ℕ} (c : Clears d n d1 s1 m d2 s2) where
-    pub left-runs : Runs d2 s2 m (clearPost d (postsAt s p))
-    left-runs = clears-runs left-held c
+    pub left-runs : Runs d2 s2 m (clear_post d (posts_at s p))
+    left-runs = clears_runs left-held c
 
     pub left-may : May (firsts m d2) (firsts m s2)
     left-may =
-        runs-may d2 s2 m (clearPost d (postsAt s p)) left-runs
+        runs-may d2 s2 m (clear_post d (posts_at s p)) left-runs
         (λ h.
-        let g = clear-fit d (postsAt s p) (may-fit (postsAt s p) z.may) h in
-        record { some = g.some; few = omega (arith, clear-length d (postsAt s p), z.may.few); rise = g.rise; scores = g.scores; last = g.last })
+        let g = clear-fit d (posts_at s p) (may-fit (posts_at s p) z.may) h in
+        record { some = g.some; few = omega (arith, clear-length d (posts_at s p), z.may.few); rise = g.rise; scores = g.scores; last = g.last })
 
-    pub left-new : (strip : Bool) (t : ℕ) → packedBytes strip t (postings (firsts m d2) (firsts m s2)) ≡ packedBytes strip t (clearPost d (postsAt s p))
-    left-new strip t = ap (λ (x : List Post). packedBytes strip t x) (runs-postings d2 s2 m (clearPost d (postsAt s p)) left-runs)
+    pub left-new : (strip : Bool) (t : ℕ) → packed_bytes strip t (postings (firsts m d2) (firsts m s2)) ≡ packed_bytes strip t (clear_post d (posts_at s p))
+    left-new strip t = ap (λ (x : List Post). packed_bytes strip t x) (runs-postings d2 s2 m (clear_post d (posts_at s p)) left-runs)
 
     -- they are packed in the list's own layout
-    pub left-anew : (strip : Bool) → strip ≡ layoutAt s p → has d (docs (postsAt s p)) ≡ true → packedBytes strip p.term (postings (firsts m d2) (firsts m s2)) ≡ leftBytes s p d
-    left-anew strip e h = rw (e, h) (left-new (layoutAt s p) p.term)
+    pub left-anew : (strip : Bool) → strip ≡ layout_at s p → has d (docs (posts_at s p)) ≡ true → packed_bytes strip p.term (postings (firsts m d2) (firsts m s2)) ≡ left_bytes s p d
+    left-anew strip e h = rw (e, h) (left-new (layout_at s p) p.term)
 
 module _ (s : List ℕ) (p : Place) (d : ℕ) where
-  pub left-as-was : has d (docs (postsAt s p)) ≡ false → leftBytes s p d ≡ take (p.next - p.at) (drop p.at s)
-  left-as-was h = rw h
+  pub left_as_was : has d (docs (posts_at s p)) ≡ false → left_bytes s p d ≡ take (p.next - p.at) (drop p.at s)
+  left_as_was h = rw h
 
-  was-length : p.at ≤ p.next → p.next ≤ length s → length (take (p.next - p.at) (drop p.at s)) ≡ p.next - p.at
-  was-length o i = length-take-le (p.next - p.at) (drop p.at s) (omega (arith, length-drop p.at s))
+  was_length : p.at ≤ p.next → p.next ≤ length s → length (take (p.next - p.at) (drop p.at s)) ≡ p.next - p.at
+  was_length o i = length-take-le (p.next - p.at) (drop p.at s) (omega (arith, length-drop p.at s))
 
-  pub left-none : p.at ≤ p.next → p.next ≤ length s → has d (docs (postsAt s p)) ≡ false → LeftOf s p d (record { bytes = p.next - p.at; held = false })
-  left-none o i h = record { bytes = rw h (sym (was-length o i)); held = sym h }
+  pub left-none : p.at ≤ p.next → p.next ≤ length s → has d (docs (posts_at s p)) ≡ false → LeftOf s p d (record { bytes = p.next - p.at; held = false })
+  left-none o i h = record { bytes = rw h (sym (was_length o i)); held = sym h }
 
-  pub left-some : (r : ℕ) → has d (docs (postsAt s p)) ≡ true → r ≡ length (packedBytes (layoutAt s p) p.term (clearPost d (postsAt s p))) → LeftOf s p d (record { bytes = r; held = true })
+  pub left-some : (r : ℕ) → has d (docs (posts_at s p)) ≡ true → r ≡ length (packed_bytes (layout_at s p) p.term (clear_post d (posts_at s p))) → LeftOf s p d (record { bytes = r; held = true })
   left-some r h e = record { bytes = rw h e; held = sym h }
 
-  pub kept-room : (at room : ℕ) → p.at ≤ p.next → p.next ≤ length s → has d (docs (postsAt s p)) ≡ false → at + length (leftBytes s p d) ≤ room → at + (p.next - p.at) ≤ room
-  kept-room at room o i h l = omega (arith, was-length o i, ap length (left-as-was h))
+  pub kept-room : (at room : ℕ) → p.at ≤ p.next → p.next ≤ length s → has d (docs (posts_at s p)) ≡ false → at + length (left_bytes s p d) ≤ room → at + (p.next - p.at) ≤ room
+  kept-room at room o i h l = omega (arith, was_length o i, ap length (left_as_was h))
 
-  pub left-small : p.at ≤ p.next → p.next ≤ length s → length (leftBytes s p d) ≤ 45768 + (p.next - p.at)
+  pub left-small : p.at ≤ p.next → p.next ≤ length s → length (left_bytes s p d) ≤ 45768 + (p.next - p.at)
   left-small o i =
-      split (has d (docs (postsAt s p)))
+      split (has d (docs (posts_at s p)))
       (λ h.
-      let ps = clearPost d (postsAt s p) in
-      let l : length (packedBytes (layoutAt s p) p.term ps) ≤ 45768 = rw (postings-own ps) at (new-small (layoutAt s p) p.term (docs ps) (scores ps)) in
+      let ps = clear_post d (posts_at s p) in
+      let l : length (packed_bytes (layout_at s p) p.term ps) ≤ 45768 = rw (postings-own ps) at (new-small (layout_at s p) p.term (docs ps) (scores ps)) in
       rw h (omega arith))
-      (λ h. rw h (omega (arith, was-length o i)))
+      (λ h. rw h (omega (arith, was_length o i)))
 
 -- ---- the lists that are left
 
 pub record Going (s : List ℕ) (floor at : ℕ) (rest : List Listing) : Type 0 where
   pub most : ℕ
   pub left : lists most floor at (drop at s) ≡ done rest
-  pub right : badLists rest ≡ NoBad
+  pub right : bad_lists rest ≡ NoBad
   pub words : Words floor (words_of rest)
 
 pub going_start : (s : List ℕ) (ls : List Listing) → Bytes s → checked s ≡ done ls → Going s 0 0 ls
@@ -108,34 +108,34 @@ pub record Goes (s : List ℕ) (d : ℕ) (rest : List Listing) (p : Place) : Typ
   pub more : List Listing
   pub going : Going s (p.term + 1) p.next more
   pub ready : (ds ss : List ℕ) → Wide ds ss → Sized s p ds ss
-  pub bytes : joined (clearPieces every d (pieces s rest)) ≡ leftBytes s p d ++ joined (clearPieces every d (pieces s more))
-  pub seen : some (holds every d) (pieces s rest) ≡ (has d (docs (postsAt s p)) || some (holds every d) (pieces s more))
+  pub bytes : joined (clear_pieces every d (pieces s rest)) ≡ left_bytes s p d ++ joined (clear_pieces every d (pieces s more))
+  pub seen : some (holds every d) (pieces s rest) ≡ (has d (docs (posts_at s p)) || some (holds every d) (pieces s more))
 
-first-bytes : (s : List ℕ) (d : ℕ) (x : Piece) (p : Place) (xs : List Piece) → x.term ≡ p.term → x.posts ≡ postsAt s p → x.strip ≡ layoutAt s p → x.bytes ≡ take (p.next - p.at) (drop p.at s) →
-    joined (clearPieces every d (x ∷ xs)) ≡ leftBytes s p d ++ joined (clearPieces every d xs)
+first-bytes : (s : List ℕ) (d : ℕ) (x : Piece) (p : Place) (xs : List Piece) → x.term ≡ p.term → x.posts ≡ posts_at s p → x.strip ≡ layout_at s p → x.bytes ≡ take (p.next - p.at) (drop p.at s) →
+    joined (clear_pieces every d (x ∷ xs)) ≡ left_bytes s p d ++ joined (clear_pieces every d xs)
 first-bytes s d x p xs t ps lay bs =
-    split (has d (docs (postsAt s p)))
+    split (has d (docs (posts_at s p)))
     (λ h.
     let g : has d (docs x.posts) ≡ true = rw ps h in
-    rw (g, h, ps, lay, t) (joined-unless (layoutAt s p) p.term (clearPost d (postsAt s p)) (clearPieces every d xs)))
+    rw (g, h, ps, lay, t) (joined-unless (layout_at s p) p.term (clear_post d (posts_at s p)) (clear_pieces every d xs)))
     (λ h.
     let g : has d (docs x.posts) ≡ false = rw ps h in
     rw (g, h, bs))
 
 going_on : (floor at : ℕ) (s : List ℕ) (d : ℕ) (rest : List Listing) (p : Place) → Going s floor at rest → at < length s → list_of (list floor at (drop at s)) ≡ Is p → Goes s d rest p
-going_on floor at s d [] p g lt q = absurd (omega (arith, lists-nil g.most floor at s g.left))
+going_on floor at s d [] p g lt q = absurd (omega (arith, lists_nil g.most floor at s g.left))
 going_on floor at s d (l ∷ ms) p g lt q =
-    let i = lists-inv g.most floor at s l ms g.left in
+    let i = lists_inv g.most floor at s l ms g.left in
     let k = list-is (list floor at (drop at s)) p q in
     let same : l ≡ k.0 = let z : done l ≡ done k.0 = sym i.reads ∙ k.1 in cc in
     let at_p : l.place ≡ p = ap (λ (x : Listing). x.place) same ∙ k.2 in
     let w = list-walked floor at s l i.reads in
-    let o = or-none (badBody l.blocks) (badLists ms) g.right in
-    let bl : l.blocks ≡ blocksAt s l.place.at l.place.count = rw w.start w.blocks in
-    let ps : postsOf l.blocks ≡ postsAt s l.place = ap {B = List Post} postsOf bl in
-    let good : badBody (blocksAt s l.place.at l.place.count) ≡ NoBad = rw bl at o.0 in
-    let may : Writable (postsAt s l.place) = rw bl at g.words.2 in
-    let n = right-count (blocksAt s l.place.at l.place.count) good in
+    let o = or_none (bad_body l.blocks) (bad_lists ms) g.right in
+    let bl : l.blocks ≡ blocks_at s l.place.at l.place.count = rw w.start w.blocks in
+    let ps : posts_of l.blocks ≡ posts_at s l.place = ap {B = List Post} posts_of bl in
+    let good : bad_body (blocks_at s l.place.at l.place.count) ≡ NoBad = rw bl at o.0 in
+    let may : Writable (posts_at s l.place) = rw bl at g.words.2 in
+    let n = right-count (blocks_at s l.place.at l.place.count) good in
     subst (λ (x : Place). Goes s d (l ∷ ms) x) at_p
     (record {
       more = ms;
@@ -146,7 +146,7 @@ going_on floor at s d (l ∷ ms) p g lt q =
         order = omega (arith, w.start, w.above);
         inside = w.within;
       };
-      bytes = first-bytes s d (piece_of s l) l.place (pieces s ms) refl ps (ap stripOf bl) refl;
+      bytes = first-bytes s d (piece_of s l) l.place (pieces s ms) refl ps (ap strip_of bl) refl;
       seen = rw ps;
     })
 
@@ -160,7 +160,7 @@ list-starts floor at s p q =
 pub record Adding (s : List ℕ) (d : ℕ) (ls : List Listing) (floor at bytes : ℕ) (held : Bool) : Type 0 where
   pub rest : List Listing
   pub going : Going s floor at rest
-  pub sum : bytes + length (joined (clearPieces every d (pieces s rest))) ≡ length (joined (clearPieces every d (pieces s ls)))
+  pub sum : bytes + length (joined (clear_pieces every d (pieces s rest))) ≡ length (joined (clear_pieces every d (pieces s ls)))
   pub seen : (held || some (holds every d) (pieces s rest)) ≡ some (holds every d) (pieces s ls)
 
 pub add_start : (s : List ℕ) (d : ℕ) (ls : List Listing) → Bytes s → checked s ≡ done ls → Adding s d ls 0 0 0 false
@@ -170,10 +170,10 @@ module _ (s : List ℕ) (d : ℕ) (ls : List Listing) (floor at bytes : ℕ) (he
   pub add-end : length s ≤ at → Measures s d ls (record { bytes = bytes; held = held })
   add-end h = go c.rest c.going.left c.sum c.seen
     where
-      go : (rest : List Listing) → lists c.going.most floor at (drop at s) ≡ done rest → bytes + length (joined (clearPieces every d (pieces s rest))) ≡ length (joined (clearPieces every d (pieces s ls))) →
+      go : (rest : List Listing) → lists c.going.most floor at (drop at s) ≡ done rest → bytes + length (joined (clear_pieces every d (pieces s rest))) ≡ length (joined (clear_pieces every d (pieces s ls))) →
           (held || some (holds every d) (pieces s rest)) ≡ some (holds every d) (pieces s ls) → Measures s d ls (record { bytes = bytes; held = held })
-      go [] e x y = record { bytes = omega arith; held = sym (or-false held) ∙ y }
-      go (l ∷ ms) e x y = absurd (omega (arith, (lists-inv c.going.most floor at s l ms e).inside))
+      go [] e x y = record { bytes = omega arith; held = sym (or_false held) ∙ y }
+      go (l ∷ ms) e x y = absurd (omega (arith, (lists_inv c.going.most floor at s l ms e).inside))
 
   pub add-never : {C : Type 0} → at < length s → (k o : ℕ) → list_of (list floor at (drop at s)) ≡ Not k o → C
   add-never lt k o q = absurd (not_stopped c.going.most floor at s c.rest c.going.left lt k o (list-not (list floor at (drop at s)) k o q))
@@ -187,7 +187,7 @@ module _ (s : List ℕ) (d : ℕ) (ls : List Listing) (floor at bytes : ℕ) (he
       record {
         rest = g.more;
         going = g.going;
-        sum = omega (arith, c.sum, ap length g.bytes, length-append (leftBytes s p d) (joined (clearPieces every d (pieces s g.more))), f.bytes);
+        sum = omega (arith, c.sum, ap length g.bytes, length-append (left_bytes s p d) (joined (clear_pieces every d (pieces s g.more))), f.bytes);
         seen = or_assoc held l.held (some (holds every d) (pieces s g.more)) ∙ rw (f.held, ← g.seen) c.seen;
       }
 
@@ -196,47 +196,47 @@ module _ (s : List ℕ) (d : ℕ) (ls : List Listing) (floor at bytes : ℕ) (he
 pub record Putting (s : List ℕ) (d : ℕ) (ls : List Listing) (l m : List ℕ) (floor at j : ℕ) : Type 0 where
   pub rest : List Listing
   pub going : Going s floor at rest
-  pub todo : Rest l m 0 j (joined (clearPieces every d (pieces s ls))) (joined (clearPieces every d (pieces s rest)))
+  pub todo : Rest l m 0 j (joined (clear_pieces every d (pieces s ls))) (joined (clear_pieces every d (pieces s rest)))
 
-pub put-start : (s : List ℕ) (d : ℕ) (ls : List Listing) (l : List ℕ) → Bytes s → checked s ≡ done ls → Putting s d ls l l 0 0 0
-put-start s d ls l b e = record { rest = ls; going = going_start s ls b e; todo = rest-start l 0 (joined (clearPieces every d (pieces s ls))) }
+pub put_start : (s : List ℕ) (d : ℕ) (ls : List Listing) (l : List ℕ) → Bytes s → checked s ≡ done ls → Putting s d ls l l 0 0 0
+put_start s d ls l b e = record { rest = ls; going = going_start s ls b e; todo = rest-start l 0 (joined (clear_pieces every d (pieces s ls))) }
 
 module _ (s : List ℕ) (d : ℕ) (ls : List Listing) (l m : List ℕ) (floor at j : ℕ) (c : Putting s d ls l m floor at j) where
-  pub put-end : length s ≤ at → Stored l m 0 j (joined (clearPieces every d (pieces s ls)))
-  put-end h = go c.rest c.going.left c.todo
+  pub put_end : length s ≤ at → Stored l m 0 j (joined (clear_pieces every d (pieces s ls)))
+  put_end h = go c.rest c.going.left c.todo
     where
-      go : (rest : List Listing) → lists c.going.most floor at (drop at s) ≡ done rest → Rest l m 0 j (joined (clearPieces every d (pieces s ls))) (joined (clearPieces every d (pieces s rest))) →
-          Stored l m 0 j (joined (clearPieces every d (pieces s ls)))
+      go : (rest : List Listing) → lists c.going.most floor at (drop at s) ≡ done rest → Rest l m 0 j (joined (clear_pieces every d (pieces s ls))) (joined (clear_pieces every d (pieces s rest))) →
+          Stored l m 0 j (joined (clear_pieces every d (pieces s ls)))
       go [] e x = rest_end refl x
-      go (k ∷ ms) e x = absurd (omega (arith, (lists-inv c.going.most floor at s k ms e).inside))
+      go (k ∷ ms) e x = absurd (omega (arith, (lists_inv c.going.most floor at s k ms e).inside))
 
-  pub put-never : {C : Type 0} → at < length s → (k o : ℕ) → list_of (list floor at (drop at s)) ≡ Not k o → C
-  put-never lt k o q = absurd (not_stopped c.going.most floor at s c.rest c.going.left lt k o (list-not (list floor at (drop at s)) k o q))
+  pub put_never : {C : Type 0} → at < length s → (k o : ℕ) → list_of (list floor at (drop at s)) ≡ Not k o → C
+  put_never lt k o q = absurd (not_stopped c.going.most floor at s c.rest c.going.left lt k o (list-not (list floor at (drop at s)) k o q))
 
   module _ (p : Place) (lt : at < length s) (q : list_of (list floor at (drop at s)) ≡ Is p) where
-    pub put-goes : Goes s d c.rest p
-    put-goes = going_on floor at s d c.rest p c.going lt q
+    pub put_goes : Goes s d c.rest p
+    put_goes = going_on floor at s d c.rest p c.going lt q
 
-    pub put-room : length (joined (clearPieces every d (pieces s ls))) ≤ length l → j + length (leftBytes s p d) ≤ length m
-    put-room h = rest-room (leftBytes s p d) (joined (clearPieces every d (pieces s put-goes.more))) put-goes.bytes c.todo (omega arith)
+    pub put_room : length (joined (clear_pieces every d (pieces s ls))) ≤ length l → j + length (left_bytes s p d) ≤ length m
+    put_room h = rest-room (left_bytes s p d) (joined (clear_pieces every d (pieces s put_goes.more))) put_goes.bytes c.todo (omega arith)
 
-    pub put_on : (o : List ℕ) (r : ℕ) → Stored m o j r (leftBytes s p d) → Putting s d ls l o (p.term + 1) p.next r
-    put_on o r f = record { rest = put-goes.more; going = put-goes.going; todo = rest-turn (leftBytes s p d) (joined (clearPieces every d (pieces s put-goes.more))) put-goes.bytes c.todo f }
+    pub put_on : (o : List ℕ) (r : ℕ) → Stored m o j r (left_bytes s p d) → Putting s d ls l o (p.term + 1) p.next r
+    put_on o r f = record { rest = put_goes.more; going = put_goes.going; todo = rest-turn (left_bytes s p d) (joined (clear_pieces every d (pieces s put_goes.more))) put_goes.bytes c.todo f }
 
 -- ---- the edit
 
-clear-few : (named : ℕ → Bool) (d : ℕ) (xs : List Piece) → few xs ≡ true → (few (clearPieces named d xs) ≡ true) × (length (clearPieces named d xs) ≤ length xs)
+clear-few : (named : ℕ → Bool) (d : ℕ) (xs : List Piece) → few xs ≡ true → (few (clear_pieces named d xs) ≡ true) × (length (clear_pieces named d xs) ≤ length xs)
 clear-few named d [] f = (refl, omega arith)
 clear-few named d (x ∷ xs) f =
     let h = few-front (x ∷ []) xs f in
     let ih = clear-few named d xs h.1 in
-    split (leb (length x.posts) maxPostings)
+    split (leb (length x.posts) max_postings)
     (λ t.
-    let short : length x.posts ≤ maxPostings = leb-true _ _ t in
+    let short : length x.posts ≤ max_postings = leb-true _ _ t in
     split (holds named d x)
     (λ e.
-    let qs = clearPost d x.posts in
-    rw e (few-unless x.strip x.term qs (clearPieces named d xs) ih.0 (omega (arith, clear-length d x.posts)), omega (arith, length-unless x.strip x.term qs (clearPieces named d xs), ih.1)))
+    let qs = clear_post d x.posts in
+    rw e (few-unless x.strip x.term qs (clear_pieces named d xs) ih.0 (omega (arith, clear-length d x.posts)), omega (arith, length-unless x.strip x.term qs (clear_pieces named d xs), ih.1)))
     (λ e. rw (e, t) (ih.0, omega (arith, ih.1))))
     (λ t. let z : false ≡ true = rw t at f in absurd (false≢true z))
 
@@ -245,20 +245,20 @@ module _ (s : List ℕ) (ls : List Listing) (b : Bytes s) (e : checked s ≡ don
   unfolding there
   withdraw-none h = settled-none (Withdraw d) (pieces s ls) room h
 
-  pub withdraw-some : some (holds every d) (pieces s ls) ≡ true → settled (Withdraw d) (pieces s ls) room ≡ fitting (joined (clearPieces every d (pieces s ls))) room
+  pub withdraw-some : some (holds every d) (pieces s ls) ≡ true → settled (Withdraw d) (pieces s ls) room ≡ fitting (joined (clear_pieces every d (pieces s ls))) room
   unfolding there changed
   withdraw-some h =
       let f = clear-few every d (pieces s ls) (rises-few 0 (pieces s ls) (sound-rises s ls b e)) in
-      let most : length (clearPieces every d (pieces s ls)) ≤ maxLists = omega (arith, f.1, pieces-length s ls, sound-lists s ls e) in
-      settled-as (Withdraw d) (pieces s ls) (clearPieces every d (pieces s ls)) room (joined (clearPieces every d (pieces s ls))) true h refl
-      (rw (f.0, le-leb (length (clearPieces every d (pieces s ls))) 1024 most)) refl
+      let most : length (clear_pieces every d (pieces s ls)) ≤ max_lists = omega (arith, f.1, pieces-length s ls, sound-lists s ls e) in
+      settled_as (Withdraw d) (pieces s ls) (clear_pieces every d (pieces s ls)) room (joined (clear_pieces every d (pieces s ls))) true h refl
+      (rw (f.0, le-leb (length (clear_pieces every d (pieces s ls))) 1024 most)) refl
 
 module _ (v : List ℕ) (room : ℕ) where
-  pub fit-large : maxShelf < length v → fitting v room ≡ refused 11 0
-  fit-large h = rw (lt-leb (length v) 1048576 h)
+  pub fit_large : max_shelf < length v → fitting v room ≡ refused 11 0
+  fit_large h = rw (lt-leb (length v) 1048576 h)
 
-  pub fit-tight : length v ≤ maxShelf → room < length v → fitting v room ≡ refused 9 0
-  fit-tight h l = rw (le-leb (length v) 1048576 h, lt-leb (length v) room l)
+  pub fit_tight : length v ≤ max_shelf → room < length v → fitting v room ≡ refused 9 0
+  fit_tight h l = rw (le-leb (length v) 1048576 h, lt-leb (length v) room l)
 
-  pub fit-done : length v ≤ maxShelf → length v ≤ room → fitting v room ≡ done v
+  pub fit-done : length v ≤ max_shelf → length v ≤ room → fitting v room ≡ done v
   fit-done h l = rw (le-leb (length v) 1048576 h, le-leb (length v) room l)

@@ -8,27 +8,27 @@ use borrow.Author.Tests.{ltb-true, ltb-false, lt-ltb, le-ltb, le-leb, eqb-true, 
 use lib.Dec.{leb, ltb, eqb}
 use lib.ListN.{length, take, drop, length-append}
 use lib.Seq.{take-add}
-use Rattle.model.specs.Limits.{maxPostings, maxLists}
+use Rattle.model.specs.Limits.{max_postings, max_lists}
 use Rattle.model.specs.Outcome.{refused, done}
 use Rattle.model.specs.Post.{Post, post, docs}
 use Rattle.model.specs.Runs.{All, has, Bytes}
-use Rattle.model.proofs.Lists.{split, or-false, All-map}
-use Rattle.shelf.specs.Walk.{Listing, list, lists, postsOf, blocksAt, stripOf}
-use Rattle.shelf.specs.Check.{badBody, badLists, checked}
+use Rattle.model.proofs.Lists.{split, or_false, All_map}
+use Rattle.shelf.specs.Walk.{Listing, list, lists, posts_of, blocks_at, strip_of}
+use Rattle.shelf.specs.Check.{bad_body, bad_lists, checked}
 use Rattle.shelf.specs.Answers.{Ready}
 use Rattle.shelf.specs.declared.walk.Place.{Place}
 use Rattle.shelf.specs.declared.check.BadRead.TheVariants.{NoBad}
 use Rattle.shelf.proofs.Walks.{list-walked}
-use Rattle.shelf.proofs.Sounds.{or-none}
-use Rattle.list.specs.Write.{Writable, Words, words_of, listBytes}
+use Rattle.shelf.proofs.Sounds.{or_none}
+use Rattle.list.specs.Write.{Writable, Words, words_of, list_bytes}
 use Rattle.list.proofs.Shelves.{sound-words}
-use Rattle.change.specs.Edits.{Edit, Set, Clear, setPost, clearPost, only}
-use Rattle.change.specs.Bytes.{Piece, piece_of, pieces, joined, anew, setPiece, anewUnlessEmpty, holds, clearPieces, changed, some, there, few, within, settled}
-use Rattle.change.specs.Seat.{seatOf, heldBy, packedBytes, spliced, fitting, placed}
+use Rattle.change.specs.Edits.{Edit, Set, Clear, set_post, clear_post, only}
+use Rattle.change.specs.Bytes.{Piece, piece_of, pieces, joined, anew, set_piece, anew_unless_empty, holds, clear_pieces, changed, some, there, few, within, settled}
+use Rattle.change.specs.Seat.{seat_of, held_by, packed_bytes, spliced, fitting, placed}
 use Rattle.change.specs.declared.seat.Seat.{Seat}
 use Rattle.change.proofs.Postings.{set-some, clear-length}
 use Rattle.change.specs.declared.seat.Seat.TheVariants.{Taken, Free}
-use Rattle.change.proofs.Pieces.{lists-inv, pieces-joined, checked-sound, sound-lists, sound-rises}
+use Rattle.change.proofs.Pieces.{lists_inv, pieces-joined, checked-sound, sound-lists, sound-rises}
 use Rattle.edit.proofs.Changes.{rises-few}
 
 -- ---- the pieces before and after the seat of term t
@@ -42,13 +42,13 @@ pub record Taking (s : List ℕ) (ls : List Listing) (at t : ℕ) (p : Place) : 
   pub low : All (λ (x : Piece). x.term < t) before
   pub high : All (λ (x : Piece). t < x.term) after
   pub term : here.term ≡ t
-  pub posts : here.posts ≡ postsOf (blocksAt s p.at p.count)
-  pub layout : here.strip ≡ stripOf (blocksAt s p.at p.count)
+  pub posts : here.posts ≡ posts_of (blocks_at s p.at p.count)
+  pub layout : here.strip ≡ strip_of (blocks_at s p.at p.count)
   pub front : take at s ++ joined before ≡ take p.at s
   pub back : joined after ≡ drop p.next s
   pub ready : Ready s p
-  pub right : badBody (blocksAt s p.at p.count) ≡ NoBad
-  pub may : Writable (postsOf (blocksAt s p.at p.count))
+  pub right : bad_body (blocks_at s p.at p.count) ≡ NoBad
+  pub may : Writable (posts_of (blocks_at s p.at p.count))
   pub order : p.at ≤ p.next
   pub inside : p.next ≤ length s
 
@@ -63,9 +63,9 @@ pub record Freeing (s : List ℕ) (ls : List Listing) (at t a : ℕ) : Type 0 wh
   pub back : joined after ≡ drop a s
   pub inside : a ≤ length s
 
-words-high : (floor t : ℕ) (s : List ℕ) (ls : List Listing) → t < floor → Words floor (words_of ls) → All (λ (x : Piece). t < x.term) (pieces s ls)
-words-high floor t s [] h ok = tt
-words-high floor t s (l ∷ ls) h ok = (omega (arith, ok.0), words-high (l.place.term + 1) t s ls (omega (arith, ok.0)) ok.3)
+words_high : (floor t : ℕ) (s : List ℕ) (ls : List Listing) → t < floor → Words floor (words_of ls) → All (λ (x : Piece). t < x.term) (pieces s ls)
+words_high floor t s [] h ok = tt
+words_high floor t s (l ∷ ls) h ok = (omega (arith, ok.0), words_high (l.place.term + 1) t s ls (omega (arith, ok.0)) ok.3)
 
 -- past one list
 past-list : (floor at : ℕ) (s : List ℕ) (l : Listing) (before : List Piece) (a : ℕ) → list floor at (drop at s) ≡ done l → take l.place.next s ++ joined before ≡ take a s →
@@ -77,13 +77,13 @@ past-list floor at s l before a e f =
     let own : take at s ++ take k (drop at s) ≡ take l.place.next s = sym (take-add at k s) ∙ ap {B = List ℕ} (λ n. take n s) q in
     rw (w.start, ← append_assoc (take at s) (take k (drop at s)) (joined before), own) f
 
-taken : (n floor at t : ℕ) (s : List ℕ) (ls : List Listing) (p : Place) → lists n floor at (drop at s) ≡ done ls → badLists ls ≡ NoBad → Words floor (words_of ls) →
-    seatOf t at ls ≡ Taken p → Taking s ls at t p
+taken : (n floor at t : ℕ) (s : List ℕ) (ls : List Listing) (p : Place) → lists n floor at (drop at s) ≡ done ls → bad_lists ls ≡ NoBad → Words floor (words_of ls) →
+    seat_of t at ls ≡ Taken p → Taking s ls at t p
 taken n floor at t s [] p e b g q = let z : ◌≡◌ {A = ℕ} 0 1 = cc in absurd (omega arith)
 taken n floor at t s (l ∷ ms) p e b g q =
-    let i = lists-inv n floor at s l ms e in
+    let i = lists_inv n floor at s l ms e in
     let w = list-walked floor at s l i.reads in
-    let o = or-none (badBody l.blocks) (badLists ms) b in
+    let o = or_none (bad_body l.blocks) (bad_lists ms) b in
     split (ltb t l.place.term)
     (λ c. let f : Free at ≡ Taken p = rw c at q in let z : ◌≡◌ {A = ℕ} 0 1 = cc in absurd (omega arith))
     (λ c. split (eqb t l.place.term)
@@ -91,7 +91,7 @@ taken n floor at t s (l ∷ ms) p e b g q =
     let f : Taken l.place ≡ Taken p = rw (c, d) at q in
     let same : l.place ≡ p = cc in
     let tt1 : t ≡ l.place.term = eqb-true _ _ d in
-    let bl : l.blocks ≡ blocksAt s l.place.at l.place.count = rw w.start w.blocks in
+    let bl : l.blocks ≡ blocks_at s l.place.at l.place.count = rw w.start w.blocks in
     subst (λ (x : Place). Taking s (l ∷ ms) at t x) same
     (record {
       before = [];
@@ -99,10 +99,10 @@ taken n floor at t s (l ∷ ms) p e b g q =
       here = piece_of s l;
       is = refl;
       low = tt;
-      high = words-high (l.place.term + 1) t s ms (omega arith) g.3;
+      high = words_high (l.place.term + 1) t s ms (omega arith) g.3;
       term = sym tt1;
-      posts = ap {B = List Post} postsOf bl;
-      layout = ap stripOf bl;
+      posts = ap {B = List Post} posts_of bl;
+      layout = ap strip_of bl;
       front = rw w.start (append-nil (take at s));
       back = pieces-joined (n - 1) (l.place.term + 1) l.place.next s ms i.left;
       ready = w.ready;
@@ -112,7 +112,7 @@ taken n floor at t s (l ∷ ms) p e b g q =
       inside = w.within;
     }))
     (λ d.
-    let f : seatOf t l.place.next ms ≡ Taken p = rw (c, d) at q in
+    let f : seat_of t l.place.next ms ≡ Taken p = rw (c, d) at q in
     let r = taken (n - 1) (l.place.term + 1) l.place.next t s ms p i.left o.1 g.3 f in
     record {
       before = piece_of s l ∷ r.before;
@@ -133,16 +133,16 @@ taken n floor at t s (l ∷ ms) p e b g q =
       inside = r.inside;
     }))
 
-freed : (n floor at t : ℕ) (s : List ℕ) (ls : List Listing) (a : ℕ) → at ≤ length s → lists n floor at (drop at s) ≡ done ls → badLists ls ≡ NoBad → Words floor (words_of ls) →
-    seatOf t at ls ≡ Free a → Freeing s ls at t a
+freed : (n floor at t : ℕ) (s : List ℕ) (ls : List Listing) (a : ℕ) → at ≤ length s → lists n floor at (drop at s) ≡ done ls → bad_lists ls ≡ NoBad → Words floor (words_of ls) →
+    seat_of t at ls ≡ Free a → Freeing s ls at t a
 freed n floor at t s [] a h e b g q =
     let z : at ≡ a = cc in
     subst (λ (x : ℕ). Freeing s [] at t x) z
     (record { before = []; after = []; is = refl; low = tt; high = tt; front = append-nil (take at s); back = pieces-joined n floor at s [] e; inside = h })
 freed n floor at t s (l ∷ ms) a h e b g q =
-    let i = lists-inv n floor at s l ms e in
+    let i = lists_inv n floor at s l ms e in
     let w = list-walked floor at s l i.reads in
-    let o = or-none (badBody l.blocks) (badLists ms) b in
+    let o = or_none (bad_body l.blocks) (bad_lists ms) b in
     split (ltb t l.place.term)
     (λ c.
     let f : Free at ≡ Free a = rw c at q in
@@ -154,7 +154,7 @@ freed n floor at t s (l ∷ ms) a h e b g q =
       after = pieces s (l ∷ ms);
       is = refl;
       low = tt;
-      high = (lt, words-high (l.place.term + 1) t s ms (omega arith) g.3);
+      high = (lt, words_high (l.place.term + 1) t s ms (omega arith) g.3);
       front = append-nil (take at s);
       back = pieces-joined n floor at s (l ∷ ms) e;
       inside = h;
@@ -162,7 +162,7 @@ freed n floor at t s (l ∷ ms) a h e b g q =
     (λ c. split (eqb t l.place.term)
     (λ d. let f : Taken l.place ≡ Free a = rw (c, d) at q in let z : ◌≡◌ {A = ℕ} 0 1 = cc in absurd (omega arith))
     (λ d.
-    let f : seatOf t l.place.next ms ≡ Free a = rw (c, d) at q in
+    let f : seat_of t l.place.next ms ≡ Free a = rw (c, d) at q in
     let r = freed (n - 1) (l.place.term + 1) l.place.next t s ms a w.within i.left o.1 g.3 f in
     record {
       before = piece_of s l ∷ r.before;
@@ -176,11 +176,11 @@ freed n floor at t s (l ∷ ms) a h e b g q =
     }))
 
 module _ (s : List ℕ) (ls : List Listing) (b : Bytes s) (e : checked s ≡ done ls) (t : ℕ) where
-  pub seat-taken : (p : Place) → seatOf t 0 ls ≡ Taken p → Taking s ls 0 t p
-  seat-taken p q = let o = checked-sound s ls e in taken 1024 0 0 t s ls p o.reads o.right (sound-words s ls b e) q
+  pub seat_taken : (p : Place) → seat_of t 0 ls ≡ Taken p → Taking s ls 0 t p
+  seat_taken p q = let o = checked-sound s ls e in taken 1024 0 0 t s ls p o.reads o.right (sound-words s ls b e) q
 
-  pub seat-free : (a : ℕ) → seatOf t 0 ls ≡ Free a → Freeing s ls 0 t a
-  seat-free a q = let o = checked-sound s ls e in freed 1024 0 0 t s ls a (omega arith) o.reads o.right (sound-words s ls b e) q
+  pub seat_free : (a : ℕ) → seat_of t 0 ls ≡ Free a → Freeing s ls 0 t a
+  seat_free a q = let o = checked-sound s ls e in freed 1024 0 0 t s ls a (omega arith) o.reads o.right (sound-words s ls b e) q
 
 -- ---- the edit there
 
@@ -191,35 +191,35 @@ joined-append (x ∷ xs) ys = rw (joined-append xs ys) (sym (append_assoc x.byte
 few-append : (xs ys : List Piece) → few xs ≡ true → few (xs ++ ys) ≡ few ys
 few-append [] ys e = refl
 few-append (x ∷ xs) ys e =
-    split (leb (length x.posts) maxPostings)
+    split (leb (length x.posts) max_postings)
     (λ t. rw t (few-append xs ys (rw t at e)))
     (λ t. let z : false ≡ true = rw t at e in absurd (false≢true z))
 
 pub few-front : (xs ys : List Piece) → few (xs ++ ys) ≡ true → (few xs ≡ true) × (few ys ≡ true)
 few-front [] ys e = (refl, e)
 few-front (x ∷ xs) ys e =
-    split (leb (length x.posts) maxPostings)
+    split (leb (length x.posts) max_postings)
     (λ t. let r = few-front xs ys (rw t at e) in (rw t r.0, r.1))
     (λ t. let z : false ≡ true = rw t at e in absurd (false≢true z))
 
 -- 12 is out: the other two by the pieces and the bytes that the edit makes
-pub settled-as : (e : Edit) (xs ys : List Piece) (room : ℕ) (v : List ℕ) (ok : Bool) → there e xs ≡ true → changed e xs ≡ ys → (few ys && leb (length ys) maxLists) ≡ ok → joined ys ≡ v →
+pub settled_as : (e : Edit) (xs ys : List Piece) (room : ℕ) (v : List ℕ) (ok : Bool) → there e xs ≡ true → changed e xs ≡ ys → (few ys && leb (length ys) max_lists) ≡ ok → joined ys ≡ v →
     settled e xs room ≡ cond ok (fitting v room) (refused 11 0)
 unfolding settled within
-settled-as e xs ys room v ok h c f j =
+settled_as e xs ys room v ok h c f j =
     rw (h, c, j, ← f)
     (split (few ys)
-    (λ a. split (leb (length ys) maxLists) (λ b. rw (a, b)) (λ b. rw (a, b)))
+    (λ a. split (leb (length ys) max_lists) (λ b. rw (a, b)) (λ b. rw (a, b)))
     (λ a. rw a))
 
 set_at : (t d w : ℕ) (before : List Piece) (x : Piece) (after : List Piece) → All (λ (y : Piece). y.term < t) before → x.term ≡ t →
-    setPiece t d w (before ++ x ∷ after) ≡ before ++ anew x.strip t (setPost d w x.posts) ∷ after
+    set_piece t d w (before ++ x ∷ after) ≡ before ++ anew x.strip t (set_post d w x.posts) ∷ after
 set_at t d w [] x after low e = rw (le-ltb t x.term (omega arith), eq-eqb t x.term (sym e))
 set_at t d w (y ∷ ys) x after low e =
     rw (le-ltb t y.term (omega (arith, low.0)), ne_eqb t y.term (λ (z : t ≡ y.term). omega (arith, low.0)), set_at t d w ys x after low.1 e)
 
 set_new : (t d w : ℕ) (before after : List Piece) → All (λ (y : Piece). y.term < t) before → All (λ (y : Piece). t < y.term) after →
-    setPiece t d w (before ++ after) ≡ before ++ anew false t (post d w ∷ []) ∷ after
+    set_piece t d w (before ++ after) ≡ before ++ anew false t (post d w ∷ []) ∷ after
 set_new t d w [] [] low high = refl
 set_new t d w [] (x ∷ after) low high = rw (lt-ltb t x.term high.0)
 set_new t d w (y ∷ ys) after low high =
@@ -243,30 +243,30 @@ module _ (t d : ℕ) where
   some_at : (before : List Piece) (x : Piece) (after : List Piece) → All (λ (y : Piece). y.term ≡ t → ⊥) before → All (λ (y : Piece). y.term ≡ t → ⊥) after → x.term ≡ t →
       some (holds (only t) d) (before ++ x ∷ after) ≡ has d (docs x.posts)
   some_at before x after o h e =
-      some-past before (x ∷ after) o ∙ rw (eq-eqb x.term t e, some-other after h) (or-false (has d (docs x.posts)))
+      some-past before (x ∷ after) o ∙ rw (eq-eqb x.term t e, some-other after h) (or_false (has d (docs x.posts)))
 
-  clear-other : (xs : List Piece) → All (λ (x : Piece). x.term ≡ t → ⊥) xs → clearPieces (only t) d xs ≡ xs
+  clear-other : (xs : List Piece) → All (λ (x : Piece). x.term ≡ t → ⊥) xs → clear_pieces (only t) d xs ≡ xs
   clear-other [] o = refl
   clear-other (x ∷ xs) o = rw (ne_eqb x.term t o.0, clear-other xs o.1)
 
-  clear-past : (xs ys : List Piece) → All (λ (x : Piece). x.term ≡ t → ⊥) xs → clearPieces (only t) d (xs ++ ys) ≡ xs ++ clearPieces (only t) d ys
+  clear-past : (xs ys : List Piece) → All (λ (x : Piece). x.term ≡ t → ⊥) xs → clear_pieces (only t) d (xs ++ ys) ≡ xs ++ clear_pieces (only t) d ys
   clear-past [] ys o = refl
   clear-past (x ∷ xs) ys o = rw (ne_eqb x.term t o.0, clear-past xs ys o.1)
 
   clear_at : (before : List Piece) (x : Piece) (after : List Piece) → All (λ (y : Piece). y.term ≡ t → ⊥) before → All (λ (y : Piece). y.term ≡ t → ⊥) after → x.term ≡ t → has d (docs x.posts) ≡ true →
-      clearPieces (only t) d (before ++ x ∷ after) ≡ before ++ anewUnlessEmpty x.strip t (clearPost d x.posts) after
+      clear_pieces (only t) d (before ++ x ∷ after) ≡ before ++ anew_unless_empty x.strip t (clear_post d x.posts) after
   clear_at before x after o h e f =
       clear-past before (x ∷ after) o ∙ rw (eq-eqb x.term t e, f, clear-other after h, e)
 
-pub joined-unless : (strip : Bool) (t : ℕ) (ps : List Post) (after : List Piece) → joined (anewUnlessEmpty strip t ps after) ≡ packedBytes strip t ps ++ joined after
+pub joined-unless : (strip : Bool) (t : ℕ) (ps : List Post) (after : List Piece) → joined (anew_unless_empty strip t ps after) ≡ packed_bytes strip t ps ++ joined after
 joined-unless strip t [] after = refl
 joined-unless strip t (p ∷ ps) after = refl
 
-pub few-unless : (strip : Bool) (t : ℕ) (ps : List Post) (after : List Piece) → few after ≡ true → length ps ≤ maxPostings → few (anewUnlessEmpty strip t ps after) ≡ true
+pub few-unless : (strip : Bool) (t : ℕ) (ps : List Post) (after : List Piece) → few after ≡ true → length ps ≤ max_postings → few (anew_unless_empty strip t ps after) ≡ true
 few-unless strip t [] after f h = f
 few-unless strip t (p ∷ ps) after f h = rw (le-leb (length (p ∷ ps)) 6400 h) f
 
-pub length-unless : (strip : Bool) (t : ℕ) (ps : List Post) (after : List Piece) → length (anewUnlessEmpty strip t ps after) ≤ suc (length after)
+pub length-unless : (strip : Bool) (t : ℕ) (ps : List Post) (after : List Piece) → length (anew_unless_empty strip t ps after) ≤ suc (length after)
 length-unless strip t [] after = omega arith
 length-unless strip t (p ∷ ps) after = omega arith
 
@@ -281,10 +281,10 @@ pieces-length s [] = refl
 pieces-length s (l ∷ ls) = ap suc (pieces-length s ls)
 
 -- a list packed anew between others that are few
-few-between : (strip : Bool) (before after : List Piece) (t : ℕ) (ps : List Post) → few before ≡ true → few after ≡ true → few (before ++ anew strip t ps ∷ after) ≡ leb (length ps) maxPostings
-few-between strip before after t ps f g = few-append before (anew strip t ps ∷ after) f ∙ and_right (leb (length ps) maxPostings) (few after) g
+few-between : (strip : Bool) (before after : List Piece) (t : ℕ) (ps : List Post) → few before ≡ true → few after ≡ true → few (before ++ anew strip t ps ∷ after) ≡ leb (length ps) max_postings
+few-between strip before after t ps f g = few-append before (anew strip t ps ∷ after) f ∙ and_right (leb (length ps) max_postings) (few after) g
 
-packed-some : (strip : Bool) (t : ℕ) (ps : List Post) → 0 < length ps → packedBytes strip t ps ≡ listBytes strip t ps
+packed-some : (strip : Bool) (t : ℕ) (ps : List Post) → 0 < length ps → packed_bytes strip t ps ≡ list_bytes strip t ps
 packed-some strip t [] h = absurd (omega arith)
 packed-some strip t (p ∷ ps) h = refl
 
@@ -292,79 +292,79 @@ module _ (s : List ℕ) (ls : List Listing) (b : Bytes s) (e : checked s ≡ don
   all-few : few (pieces s ls) ≡ true
   all-few = rises-few 0 (pieces s ls) (sound-rises s ls b e)
 
-  set-taken : (w : ℕ) (p : Place) → Taking s ls 0 t p → settled (Set t d w) (pieces s ls) room ≡ placed s (length ls) (Taken p) t (setPost d w (postsOf (blocksAt s p.at p.count))) room
+  set-taken : (w : ℕ) (p : Place) → Taking s ls 0 t p → settled (Set t d w) (pieces s ls) room ≡ placed s (length ls) (Taken p) t (set_post d w (posts_of (blocks_at s p.at p.count))) room
   unfolding changed there placed
   set-taken w p k =
-      let ps = postsOf (blocksAt s p.at p.count) in
+      let ps = posts_of (blocks_at s p.at p.count) in
       let before = k.before in
       let after = k.after in
-      let lay = stripOf (blocksAt s p.at p.count) in
-      let z = anew lay t (setPost d w ps) in
+      let lay = strip_of (blocks_at s p.at p.count) in
+      let z = anew lay t (set_post d w ps) in
       let split2 = few-front before (k.here ∷ after) (rw k.is at all-few) in
       let after-few = (few-front (k.here ∷ []) after split2.1).1 in
-      let c : setPiece t d w (pieces s ls) ≡ before ++ z ∷ after = rw (k.is, set_at t d w before k.here after k.low k.term, k.posts, k.layout) in
+      let c : set_piece t d w (pieces s ls) ≡ before ++ z ∷ after = rw (k.is, set_at t d w before k.here after k.low k.term, k.posts, k.layout) in
       let size : length (before ++ z ∷ after) ≡ length ls = omega (arith, length-append before (z ∷ after), length-append before (k.here ∷ after), ap length k.is, pieces-length s ls) in
       let front : joined before ≡ take p.at s = k.front in
-      let bytes : joined (before ++ z ∷ after) ≡ spliced s p.at p.next (packedBytes lay t (setPost d w ps)) =
-      rw (joined-append before (z ∷ after), front, k.back, packed-some lay t (setPost d w ps) (set-some d w ps)) in
-      settled-as (Set t d w) (pieces s ls) (before ++ z ∷ after) room (spliced s p.at p.next (packedBytes lay t (setPost d w ps)))
-      (leb (length (setPost d w ps)) maxPostings && leb (length ls) maxLists) refl c (rw (few-between lay before after t (setPost d w ps) split2.0 after-few, size)) bytes
+      let bytes : joined (before ++ z ∷ after) ≡ spliced s p.at p.next (packed_bytes lay t (set_post d w ps)) =
+      rw (joined-append before (z ∷ after), front, k.back, packed-some lay t (set_post d w ps) (set-some d w ps)) in
+      settled_as (Set t d w) (pieces s ls) (before ++ z ∷ after) room (spliced s p.at p.next (packed_bytes lay t (set_post d w ps)))
+      (leb (length (set_post d w ps)) max_postings && leb (length ls) max_lists) refl c (rw (few-between lay before after t (set_post d w ps) split2.0 after-few, size)) bytes
 
-  set_free : (w a : ℕ) → Freeing s ls 0 t a → settled (Set t d w) (pieces s ls) room ≡ placed s (length ls) (Free a) t (setPost d w []) room
+  set_free : (w a : ℕ) → Freeing s ls 0 t a → settled (Set t d w) (pieces s ls) room ≡ placed s (length ls) (Free a) t (set_post d w []) room
   unfolding changed there placed
   set_free w a k =
       let before = k.before in
       let after = k.after in
       let z = anew false t (post d w ∷ []) in
       let split2 = few-front before after (rw k.is at all-few) in
-      let c : setPiece t d w (pieces s ls) ≡ before ++ z ∷ after = rw k.is (set_new t d w before after k.low k.high) in
+      let c : set_piece t d w (pieces s ls) ≡ before ++ z ∷ after = rw k.is (set_new t d w before after k.low k.high) in
       let size : length (before ++ z ∷ after) ≡ suc (length ls) = omega (arith, length-append before (z ∷ after), length-append before after, ap length k.is, pieces-length s ls) in
       let front : joined before ≡ take a s = k.front in
-      let bytes : joined (before ++ z ∷ after) ≡ spliced s a a (packedBytes false t (post d w ∷ [])) = rw (joined-append before (z ∷ after), front, k.back) in
-      settled-as (Set t d w) (pieces s ls) (before ++ z ∷ after) room (spliced s a a (packedBytes false t (post d w ∷ [])))
-      (leb (length (post d w ∷ [])) maxPostings && leb (suc (length ls)) maxLists) refl c (rw (few-between false before after t (post d w ∷ []) split2.0 split2.1, size)) bytes
+      let bytes : joined (before ++ z ∷ after) ≡ spliced s a a (packed_bytes false t (post d w ∷ [])) = rw (joined-append before (z ∷ after), front, k.back) in
+      settled_as (Set t d w) (pieces s ls) (before ++ z ∷ after) room (spliced s a a (packed_bytes false t (post d w ∷ [])))
+      (leb (length (post d w ∷ [])) max_postings && leb (suc (length ls)) max_lists) refl c (rw (few-between false before after t (post d w ∷ []) split2.0 split2.1, size)) bytes
 
-  pub settled-set : (w : ℕ) (seat : Seat) → seat ≡ seatOf t 0 ls → settled (Set t d w) (pieces s ls) room ≡ placed s (length ls) seat t (setPost d w (heldBy s seat)) room
-  settled-set w (Taken p) q = set-taken w p (seat-taken s ls b e t p (sym q))
-  settled-set w (Free a) q = set_free w a (seat-free s ls b e t a (sym q))
+  pub settled-set : (w : ℕ) (seat : Seat) → seat ≡ seat_of t 0 ls → settled (Set t d w) (pieces s ls) room ≡ placed s (length ls) seat t (set_post d w (held_by s seat)) room
+  settled-set w (Taken p) q = set-taken w p (seat_taken s ls b e t p (sym q))
+  settled-set w (Free a) q = set_free w a (seat_free s ls b e t a (sym q))
 
   clear-taken : (p : Place) → Taking s ls 0 t p → settled (Clear t d) (pieces s ls) room
-      ≡ cond (has d (docs (postsOf (blocksAt s p.at p.count)))) (placed s (length ls) (Taken p) t (clearPost d (postsOf (blocksAt s p.at p.count))) room) (refused 12 0)
+      ≡ cond (has d (docs (posts_of (blocks_at s p.at p.count)))) (placed s (length ls) (Taken p) t (clear_post d (posts_of (blocks_at s p.at p.count))) room) (refused 12 0)
   unfolding changed there placed
   clear-taken p k =
-      let ps = postsOf (blocksAt s p.at p.count) in
-      let qs = clearPost d ps in
-      let lay = stripOf (blocksAt s p.at p.count) in
+      let ps = posts_of (blocks_at s p.at p.count) in
+      let qs = clear_post d ps in
+      let lay = strip_of (blocks_at s p.at p.count) in
       let before = k.before in
       let after = k.after in
-      let low : All (λ (x : Piece). x.term ≡ t → ⊥) before = All-map before (λ (x : Piece) (l : x.term < t) (z : x.term ≡ t). omega arith) k.low in
-      let high : All (λ (x : Piece). x.term ≡ t → ⊥) after = All-map after (λ (x : Piece) (l : t < x.term) (z : x.term ≡ t). omega arith) k.high in
+      let low : All (λ (x : Piece). x.term ≡ t → ⊥) before = All_map before (λ (x : Piece) (l : x.term < t) (z : x.term ≡ t). omega arith) k.low in
+      let high : All (λ (x : Piece). x.term ≡ t → ⊥) after = All_map after (λ (x : Piece) (l : t < x.term) (z : x.term ≡ t). omega arith) k.high in
       let is-there : some (holds (only t) d) (pieces s ls) ≡ has d (docs ps) = rw (k.is, ← k.posts) (some_at t d before k.here after low high k.term) in
       split (has d (docs ps))
       (λ h.
-      let ys = before ++ anewUnlessEmpty lay t qs after in
+      let ys = before ++ anew_unless_empty lay t qs after in
       let two = few-front before (k.here ∷ after) (rw k.is at all-few) in
       let after-few = (few-front (k.here ∷ []) after two.1).1 in
-      let short : length qs ≤ maxPostings = omega (arith, clear-length d ps, k.may.few) in
+      let short : length qs ≤ max_postings = omega (arith, clear-length d ps, k.may.few) in
       let held : has d (docs k.here.posts) ≡ true = rw k.posts h in
-      let c : clearPieces (only t) d (pieces s ls) ≡ ys = rw (k.is, ← k.posts, ← k.layout) (clear_at t d before k.here after low high k.term held) in
-      let most : length ls ≤ maxLists = sound-lists s ls e in
-      let size : length ys ≤ maxLists = omega (arith, length-append before (anewUnlessEmpty lay t qs after), length-append before (k.here ∷ after), ap length k.is, pieces-length s ls, length-unless lay t qs after) in
+      let c : clear_pieces (only t) d (pieces s ls) ≡ ys = rw (k.is, ← k.posts, ← k.layout) (clear_at t d before k.here after low high k.term held) in
+      let most : length ls ≤ max_lists = sound-lists s ls e in
+      let size : length ys ≤ max_lists = omega (arith, length-append before (anew_unless_empty lay t qs after), length-append before (k.here ∷ after), ap length k.is, pieces-length s ls, length-unless lay t qs after) in
       let front : joined before ≡ take p.at s = k.front in
-      let bytes : joined ys ≡ spliced s p.at p.next (packedBytes lay t qs) = rw (joined-append before (anewUnlessEmpty lay t qs after), joined-unless lay t qs after, front, k.back) in
-      let ok : (few ys && leb (length ys) maxLists) ≡ true = rw (few-append before (anewUnlessEmpty lay t qs after) two.0, few-unless lay t qs after after-few short, le-leb (length ys) 1024 size) in
+      let bytes : joined ys ≡ spliced s p.at p.next (packed_bytes lay t qs) = rw (joined-append before (anew_unless_empty lay t qs after), joined-unless lay t qs after, front, k.back) in
+      let ok : (few ys && leb (length ys) max_lists) ≡ true = rw (few-append before (anew_unless_empty lay t qs after) two.0, few-unless lay t qs after after-few short, le-leb (length ys) 1024 size) in
       rw (h, le-leb (length qs) 6400 short, le-leb (length ls) 1024 most)
-      (settled-as (Clear t d) (pieces s ls) ys room (spliced s p.at p.next (packedBytes lay t qs)) true (is-there ∙ h) c ok bytes))
+      (settled_as (Clear t d) (pieces s ls) ys room (spliced s p.at p.next (packed_bytes lay t qs)) true (is-there ∙ h) c ok bytes))
       (λ h. rw h (settled-none (Clear t d) (pieces s ls) room (is-there ∙ h)))
 
   clear-free : (a : ℕ) → Freeing s ls 0 t a → settled (Clear t d) (pieces s ls) room ≡ refused 12 0
   unfolding there
   clear-free a k =
-      let low : All (λ (x : Piece). x.term ≡ t → ⊥) k.before = All-map k.before (λ (x : Piece) (l : x.term < t) (z : x.term ≡ t). omega arith) k.low in
-      let high : All (λ (x : Piece). x.term ≡ t → ⊥) k.after = All-map k.after (λ (x : Piece) (l : t < x.term) (z : x.term ≡ t). omega arith) k.high in
+      let low : All (λ (x : Piece). x.term ≡ t → ⊥) k.before = All_map k.before (λ (x : Piece) (l : x.term < t) (z : x.term ≡ t). omega arith) k.low in
+      let high : All (λ (x : Piece). x.term ≡ t → ⊥) k.after = All_map k.after (λ (x : Piece) (l : t < x.term) (z : x.term ≡ t). omega arith) k.high in
       settled-none (Clear t d) (pieces s ls) room (rw k.is (some-past t d k.before k.after low ∙ some-other t d k.after high))
 
-  pub settled-clear : (seat : Seat) → seat ≡ seatOf t 0 ls →
-      settled (Clear t d) (pieces s ls) room ≡ cond (has d (docs (heldBy s seat))) (placed s (length ls) seat t (clearPost d (heldBy s seat)) room) (refused 12 0)
-  settled-clear (Taken p) q = clear-taken p (seat-taken s ls b e t p (sym q))
-  settled-clear (Free a) q = clear-free a (seat-free s ls b e t a (sym q))
+  pub settled-clear : (seat : Seat) → seat ≡ seat_of t 0 ls →
+      settled (Clear t d) (pieces s ls) room ≡ cond (has d (docs (held_by s seat))) (placed s (length ls) seat t (clear_post d (held_by s seat)) room) (refused 12 0)
+  settled-clear (Taken p) q = clear-taken p (seat_taken s ls b e t p (sym q))
+  settled-clear (Free a) q = clear-free a (seat_free s ls b e t a (sym q))

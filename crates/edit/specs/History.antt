@@ -6,7 +6,7 @@ use Rattle.shelf.specs.Check.{checked}
 use Rattle.list.specs.Write.{Word, Words, words_of, writing}
 use Rattle.change.specs.Edits.{Edit, applied, Termed}
 use Rattle.change.specs.Bytes.{edited}
-use Rattle.convert.specs.Convert.{converted, turnWords}
+use Rattle.convert.specs.Convert.{converted, turn_words}
 
 -- "conversions may stand in demand 3's history, changing no posting"
 pub data Act : Type 0 where
@@ -21,7 +21,7 @@ made (Convert t) s room = converted t s room
 -- what it does to what the shelf holds
 abbrev pub does : Act → List Word → List Word
 does (Change e) ws = applied e ws
-does (Convert t) ws = turnWords t ws
+does (Convert t) ws = turn_words t ws
 
 abbrev pub Named : Act → Type 0
 Named (Change e) = Termed e
@@ -32,28 +32,28 @@ pub record Try : Type 0 where
   pub act : Act
   pub room : ℕ
 
-abbrev pub orStay : List ℕ → Outcome (List ℕ) → List ℕ
-orStay s (refused n o) = s
-orStay s (done v) = v
+abbrev pub or_stay : List ℕ → Outcome (List ℕ) → List ℕ
+or_stay s (refused n o) = s
+or_stay s (done v) = v
 
 -- the shelf at the end, from the shelf s
-abbrev pub shelfAfter : List Try → List ℕ → List ℕ
-shelfAfter [] s = s
-shelfAfter (e ∷ es) s = shelfAfter es (orStay s (made e.act s e.room))
+abbrev pub shelf_after : List Try → List ℕ → List ℕ
+shelf_after [] s = s
+shelf_after (e ∷ es) s = shelf_after es (or_stay s (made e.act s e.room))
 
-abbrev pub ifDone : Act → Outcome (List ℕ) → List Act → List Act
-ifDone e (refused n o) es = es
-ifDone e (done v) es = e ∷ es
+abbrev pub if_done : Act → Outcome (List ℕ) → List Act → List Act
+if_done e (refused n o) es = es
+if_done e (done v) es = e ∷ es
 
 -- the acts that were accepted
 abbrev pub accepted : List Try → List ℕ → List Act
 accepted [] s = []
-accepted (e ∷ es) s = ifDone e.act (made e.act s e.room) (accepted es (orStay s (made e.act s e.room)))
+accepted (e ∷ es) s = if_done e.act (made e.act s e.room) (accepted es (or_stay s (made e.act s e.room)))
 
 -- what they add up to
-abbrev pub addUp : List Act → List Word → List Word
-addUp [] ws = ws
-addUp (e ∷ es) ws = addUp es (does e ws)
+abbrev pub add_up : List Act → List Word → List Word
+add_up [] ws = ws
+add_up (e ∷ es) ws = add_up es (does e ws)
 
 -- what a history leaves: the checker finds nothing, the shelf holds exactly what the accepted acts add up to, and its bytes are one writing of it
 pub record History (s : List ℕ) (ws : List Word) : Type 0 where

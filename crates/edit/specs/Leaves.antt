@@ -1,9 +1,9 @@
 -- What an accepted edit leaves. Assumes nothing.
 use Rattle.std.specs.Prelude.{ℕ, ◌≡◌, List}
 use Rattle.model.specs.Outcome.{done}
-use Rattle.model.specs.Post.{topScore}
-use Rattle.block.specs.Body.{bodyPosts}
-use Rattle.shelf.specs.Walk.{Block, Listing, readOr}
+use Rattle.model.specs.Post.{top_score}
+use Rattle.block.specs.Body.{body_posts}
+use Rattle.shelf.specs.Walk.{Block, Listing, read_or}
 use Rattle.shelf.specs.Check.{checked}
 use Rattle.list.specs.Write.{words_of}
 use Rattle.change.specs.Edits.{Edit, applied}
@@ -19,4 +19,4 @@ pub record Leaves (e : Edit) (s : List ℕ) (old : List Listing) (v : List ℕ) 
 
 -- the summary's greatest score is the largest of its body's scores
 abbrev pub Capped : Block → Type 0
-Capped b = topScore 0 (readOr (bodyPosts b.sum b.body)) ≡ b.sum.top
+Capped b = top_score 0 (read_or (body_posts b.sum b.body)) ≡ b.sum.top

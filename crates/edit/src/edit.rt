@@ -5,14 +5,14 @@ ghost use Rattle.shelf.specs.Walk.{Listing};
 ghost use Rattle.shelf.specs.Check.{checked};
 ghost use Rattle.list.specs.Answer.{Gives};
 ghost use Rattle.change.specs.Edits.{Set, Clear, Withdraw};
-ghost use Rattle.change.specs.Bytes.{docidIn, in_range, pieces, settled, edited};
+ghost use Rattle.change.specs.Bytes.{docid_in, in_range, pieces, settled, edited};
 ghost use Rattle.change.specs.Seat.{Sounds, Wide};
 
 use list::answer::Answer;
 use shelf::check::Checked;
 
 fn docid_in(d: u32) -> bool
-    ensures { result ≡ docidIn d }
+    ensures { result ≡ docid_in d }
 {
     0 < d && d <= model::MAX_DOCID
 }

@@ -2,8 +2,8 @@
 ghost use Rattle.std.specs.Prelude.{◌≡◌};
 ghost use Rattle.model.specs.Post.{docs, Rising};
 ghost use Rattle.model.specs.Runs.{has};
-ghost use Rattle.block.specs.Body.{bodyRun};
-ghost use Rattle.edit.specs.Left.{postsAt, Sought};
+ghost use Rattle.block.specs.Body.{body_run};
+ghost use Rattle.edit.specs.Left.{posts_at, Sought};
 
 use block::cursor::{Cursor, Step};
 use block::summary::Summary;
@@ -12,8 +12,8 @@ use shelf::walk::Place;
 
 // Whether a body's postings, which rise, hold docid `d`: none past the first that is not below it is read.
 fn body_holds(s: &[u8], m: Summary, d: u32) -> bool
-    requires { Rising 0 (bodyRun m s.now) }
-    ensures { result ≡ has d (docs (bodyRun m s.now)) }
+    requires { Rising 0 (body_run m s.now) }
+    ensures { result ≡ has d (docs (body_run m s.now)) }
 {
     let e = block::body::edge(s, m);
     let gaps = &s[0..e];
@@ -40,7 +40,7 @@ fn body_holds(s: &[u8], m: Summary, d: u32) -> bool
 // Whether a list holds docid `d`: docids rise from block to block, so that only the first block whose greatest docid is not below it may.
 pub(crate) fn holds(s: &[u8], list: Place, d: u32) -> bool
     requires { Sought s.now list }
-    ensures { result ≡ has d (docs (postsAt s.now list)) }
+    ensures { result ≡ has d (docs (posts_at s.now list)) }
 {
     let mut r = Reading::new(list);
     loop {

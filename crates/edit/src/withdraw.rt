@@ -6,9 +6,9 @@ ghost use Rattle.shelf.specs.Walk.{Listing};
 ghost use Rattle.shelf.specs.Check.{checked};
 ghost use Rattle.list.specs.Answer.{Gives};
 ghost use Rattle.change.specs.Edits.{Withdraw, every};
-ghost use Rattle.change.specs.Bytes.{pieces, joined, clearPieces, settled};
+ghost use Rattle.change.specs.Bytes.{pieces, joined, clear_pieces, settled};
 ghost use Rattle.change.specs.Seat.{Sounds, Wide};
-ghost use Rattle.edit.specs.Left.{Sized, LeftOf, leftBytes, Measures};
+ghost use Rattle.edit.specs.Left.{Sized, LeftOf, left_bytes, Measures};
 
 use change::seat::Seat;
 use list::answer::Answer;
@@ -50,8 +50,8 @@ fn put_left(
     out: &mut [u8],
     at: usize,
 ) -> usize
-    requires { Sized s.now list docs.old scores.old × (at + length (leftBytes s.now list d) ≤ length out.old) }
-    ensures { Stored out.old out.new at result (leftBytes s.now list d) }
+    requires { Sized s.now list docs.old scores.old × (at + length (left_bytes s.now list d) ≤ length out.old) }
+    ensures { Stored out.old out.new at result (left_bytes s.now list d) }
 {
     if !crate::holds::holds(s, list, d) {
         let from = list.at;
@@ -93,8 +93,8 @@ fn measure(s: &[u8], d: u32, docs: &mut [u32], scores: &mut [u16]) -> Left
 
 // Stores what is left of all lists at the front of a buffer that has room, and gives its length.
 fn put_all(s: &[u8], d: u32, docs: &mut [u32], scores: &mut [u16], out: &mut [u8]) -> usize
-    requires { Sounds s.now × Wide docs.old scores.old × ((ls : List Listing) → checked s.now ≡ done ls → length (joined (clearPieces every d (pieces s.now ls))) ≤ length out.old) }
-    ensures { (ls : List Listing) → checked s.now ≡ done ls → Stored out.old out.new 0 result (joined (clearPieces every d (pieces s.now ls))) }
+    requires { Sounds s.now × Wide docs.old scores.old × ((ls : List Listing) → checked s.now ≡ done ls → length (joined (clear_pieces every d (pieces s.now ls))) ≤ length out.old) }
+    ensures { (ls : List Listing) → checked s.now ≡ done ls → Stored out.old out.new 0 result (joined (clear_pieces every d (pieces s.now ls))) }
 {
     let mut at: usize = 0;
     let mut floor: u64 = 0;

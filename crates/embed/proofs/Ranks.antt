@@ -4,7 +4,7 @@ use Prim.Native.Nat.{ℕ, ◌≤◌, min}
 use mathlib.Core.Path.{◌≡◌, refl, sym, ap, ◌∙◌}
 use mathlib.Core.List.{List}
 use lib.ListN.{length, take, length-take}
-use Rattle.model.specs.Limits.{maxK}
+use Rattle.model.specs.Limits.{max_k}
 use Rattle.model.specs.Outcome.{Outcome, refused, done}
 use Rattle.model.specs.Runs.{Holds}
 use Rattle.model.specs.Post.{Post, docs, scores, postings}
@@ -12,9 +12,9 @@ use Rattle.model.proofs.Lists.{map-take}
 use Rattle.model.proofs.Posts.{count_of}
 use Rattle.change.proofs.Runnings.{docs-of, scores-of}
 use Rattle.rank.specs.Rank.{Hit}
-use Rattle.rank.specs.Keep.{keptOf, noHits}
+use Rattle.rank.specs.Keep.{kept_of, no_hits}
 use Rattle.rank.specs.declared.keep.Kept.{Kept}
-use Rattle.exhaustive.specs.Exhaustive.{rankAll, paperOf, paper, Answers as Ranks}
+use Rattle.exhaustive.specs.Exhaustive.{rank_all, paper_of, paper, Answers as Ranks}
 use Rattle.exhaustive.specs.declared.all.Verdict.{Verdict}
 use Rattle.exhaustive.specs.declared.all.Verdict.TheVariants.{Done, Refused}
 use Rattle.exhaustive.specs.declared.all.Ranked.{Ranked}
@@ -29,28 +29,28 @@ use Rattle.embed.specs.Search.{Finds}
 
 -- ---- the keeper that a ranker hands back fits: a ranking has no more hits than rows
 
-kept-fit : (v : Verdict) (t : Kept) (o : Outcome (List Hit)) (rows : ℕ) (ds ss : List ℕ) → length t.docids ≡ maxK → length t.scores ≡ maxK
-    → paperOf v (keptOf t) ≡ o → Within length rows o → t.n ≤ maxK → ((n at : ℕ) → v ≡ Refused n at → t ≡ noHits) → rows ≡ min (length ds) (length ss) → Fit t ds ss
+kept-fit : (v : Verdict) (t : Kept) (o : Outcome (List Hit)) (rows : ℕ) (ds ss : List ℕ) → length t.docids ≡ max_k → length t.scores ≡ max_k
+    → paper_of v (kept_of t) ≡ o → Within length rows o → t.n ≤ max_k → ((n at : ℕ) → v ≡ Refused n at → t ≡ no_hits) → rows ≡ min (length ds) (length ss) → Fit t ds ss
 kept-fit (Refused n at) t o rows ds ss a b e w l z m = rw (z n at refl) (record { few = omega arith; docids = omega arith; scored = omega arith })
 kept-fit Done t o rows ds ss a b e w l z m =
-    let h : length (keptOf t) ≤ rows = rw (sym e) at w in
+    let h : length (kept_of t) ≤ rows = rw (sym e) at w in
     let n : t.n ≤ rows = omega (arith, h, length-take t.n (postings t.docids t.scores), count_of t.docids t.scores (omega arith)) in
     record { few = l; docids = omega arith; scored = omega arith }
 
-pub rank-fit : (q s : List ℕ) (rows : ℕ) (ds ss : List ℕ) (r : Ranked) → length r.kept.docids ≡ maxK → length r.kept.scores ≡ maxK
-    → Ranks (rankAll q s rows) r → rows ≡ min (length ds) (length ss) → Fit r.kept ds ss
-rank-fit q s rows ds ss r a b h m = kept-fit r.verdict r.kept (rankAll q s rows) rows ds ss a b h.answer (rank-within q s rows) h.few h.cleared m
+pub rank-fit : (q s : List ℕ) (rows : ℕ) (ds ss : List ℕ) (r : Ranked) → length r.kept.docids ≡ max_k → length r.kept.scores ≡ max_k
+    → Ranks (rank_all q s rows) r → rows ≡ min (length ds) (length ss) → Fit r.kept ds ss
+rank-fit q s rows ds ss r a b h m = kept-fit r.verdict r.kept (rank_all q s rows) rows ds ss a b h.answer (rank-within q s rows) h.few h.cleared m
 
-pub search-fit : (q s : List ℕ) (rows : ℕ) (fs cs ms fs' cs' ms' ds ss : List ℕ) (r : Pruned) → length r.kept.docids ≡ maxK → length r.kept.scores ≡ maxK
+pub search-fit : (q s : List ℕ) (rows : ℕ) (fs cs ms fs' cs' ms' ds ss : List ℕ) (r : Pruned) → length r.kept.docids ≡ max_k → length r.kept.scores ≡ max_k
     → Answers (searched q s rows fs cs ms) fs' cs' ms' r → rows ≡ min (length ds) (length ss) → Fit r.kept ds ss
 search-fit q s rows fs cs ms fs' cs' ms' ds ss r a b h m =
     kept-fit r.verdict r.kept (searched q s rows fs cs ms).outcome rows ds ss a b h.outcome (searched-within q s rows fs cs ms) h.few h.cleared m
 
 -- ---- a keeper's rows
 
-pub both-columns : (n : ℕ) (ds ss old olds new news : List ℕ) (r t : ℕ) → length ds ≡ length ss
+pub both_columns : (n : ℕ) (ds ss old olds new news : List ℕ) (r t : ℕ) → length ds ≡ length ss
     → Holds old (take n ds) new r → Holds olds (take n ss) news t → Rows (take n (postings ds ss)) old olds new news t
-both-columns n ds ss old olds new news r t e g h =
+both_columns n ds ss old olds new news r t e g h =
     let d : docs (take n (postings ds ss)) ≡ take n ds = map-take (λ (p : Post). p.doc) n (postings ds ss) ∙ ap (take n) (docs-of ds ss e) in
     let s : scores (take n (postings ds ss)) ≡ take n ss = map-take (λ (p : Post). p.score) n (postings ds ss) ∙ ap (take n) (scores-of ds ss e) in
     let u : r ≡ t = omega (arith, g.count, h.count, length-take n ds, length-take n ss) in
@@ -65,22 +65,22 @@ column : (xs old new : List ℕ) (n number value : ℕ) → Holds old xs new n �
 column xs old new n number value h p = record { reports = rw h.count at p; holds = rw h.count at h.whole }
 
 pub told-hits : (v : Verdict) (hs : List Hit) (ds ss ds' ss' : List ℕ) (n number value : ℕ) → v ≡ Done → Rows hs ds ss ds' ss' n
-    → Reports (done n) number value → Hits (paperOf v hs) ds ss ds' ss' number value
+    → Reports (done n) number value → Hits (paper_of v hs) ds ss ds' ss' number value
 told-hits v hs ds ss ds' ss' n number value e h p =
     rw e (record { docids = column (docs hs) ds ds' n number value h.docids p; scored = column (scores hs) ss ss' n number value h.scored p })
 
 pub told-refusal : (v : Verdict) (hs : List Hit) (ds ss : List ℕ) (n a number value : ℕ) → v ≡ Refused n a → Reports (refused n a) number value
-    → Hits (paperOf v hs) ds ss ds ss number value
+    → Hits (paper_of v hs) ds ss ds ss number value
 told-refusal v hs ds ss n a number value e p = rw e (record { docids = record { reports = p; holds = refl }; scored = record { reports = p; holds = refl } })
 
 -- ---- the entry points' contracts, m being the number of rows
 
 pub ranks : (q s : List ℕ) {rows m : ℕ} {ds ss ds' ss' : List ℕ} {r : Ranked} {number value : ℕ} → rows ≡ m
-    → Ranks (rankAll q s rows) r → Hits (paper r) ds ss ds' ss' number value → Hits (rankAll q s m) ds ss ds' ss' number value
+    → Ranks (rank_all q s rows) r → Hits (paper r) ds ss ds' ss' number value → Hits (rank_all q s m) ds ss ds' ss' number value
 ranks q s e h k = rw e at (rw h.answer at k)
 
 pub finds : (q s fs cs ms : List ℕ) {rows m : ℕ} {fs' cs' ms' ds ss ds' ss' : List ℕ} {r : Pruned} {number value : ℕ} → rows ≡ m
-    → Answers (searched q s rows fs cs ms) fs' cs' ms' r → Hits (paperOf r.verdict (keptOf r.kept)) ds ss ds' ss' number value
+    → Answers (searched q s rows fs cs ms) fs' cs' ms' r → Hits (paper_of r.verdict (kept_of r.kept)) ds ss ds' ss' number value
     → Finds (searched q s m fs cs ms) ds ss ds' ss' fs' cs' ms' number value r.intervals r.opened r.blocks
 finds q s fs cs ms e h k =
     let found = rw e at h in

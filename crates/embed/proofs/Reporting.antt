@@ -7,7 +7,7 @@ use Rattle.shelf.specs.Check.{judged, paper}
 use Rattle.shelf.specs.declared.check.Checked.{Checked}
 use Rattle.shelf.specs.declared.check.Checked.TheVariants.{Sound, Fault}
 use Rattle.query.specs.Query.{Question}
-use Rattle.query.specs.Answers.{questionOf, paper as verdictOf}
+use Rattle.query.specs.Answers.{question_of, paper as verdictOf}
 use Rattle.query.specs.declared.read.Verdict.{Verdict}
 use Rattle.query.specs.declared.read.Verdict.TheVariants.{Good, Bad}
 use Rattle.list.specs.Answer.{Gives, paper as written}
@@ -37,11 +37,11 @@ faulty o r n a p e = refusing _ n a (rw (checks o, sym p, e) refl)
 abbrev pub settled : Outcome Question → Outcome (Unit {0})
 settled o = and_then o (λ x. done tt)
 
-asks : (o : Outcome Question) → giving (λ x. x.k) o ≡ and_then (settled o) (λ u. done (questionOf o).k)
+asks : (o : Outcome Question) → giving (λ x. x.k) o ≡ and_then (settled o) (λ u. done (question_of o).k)
 asks (refused n a) = refl
 asks (done x) = refl
 
-pub right : (o : Outcome Question) (v : Verdict) (k : ℕ) → verdictOf v ≡ settled o → v ≡ Good → k ≡ (questionOf o).k → Reports (giving (λ x. x.k) o) 0 k
+pub right : (o : Outcome Question) (v : Verdict) (k : ℕ) → verdictOf v ≡ settled o → v ≡ Good → k ≡ (question_of o).k → Reports (giving (λ x. x.k) o) 0 k
 right o v k p e f = accepted _ k (rw (asks o, sym p, e, f) refl)
 
 pub wrong : (o : Outcome Question) (v : Verdict) (n a : ℕ) → verdictOf v ≡ settled o → v ≡ Bad n a → Reports (giving (λ x. x.k) o) n a

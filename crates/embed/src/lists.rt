@@ -1,7 +1,7 @@
 // A list read, and a list written.
 ghost use Rattle.std.specs.Prelude.{length};
-ghost use Rattle.list.specs.Read.{readList, docidsOf, scoresOf};
-ghost use Rattle.list.specs.Write.{writeList};
+ghost use Rattle.list.specs.Read.{read_list, docids_of, scores_of};
+ghost use Rattle.list.specs.Write.{write_list};
 ghost use Rattle.embed.specs.Report.{Fills};
 
 // Reads the list of a term to the front of two runs: numbers 6, 7, 12, 8, 9. Stores the offset, or how many postings there are.
@@ -13,8 +13,8 @@ pub extern "C" fn tagmurlen_read_list(
     scores: &mut [u16],
     value: &mut u64,
 ) -> u32
-    ensures fills { Fills (docidsOf (readList term bytes.now (length docids.old) (length scores.old))) docids.old docids.new result value.new }
-    ensures fills_2 { Fills (scoresOf (readList term bytes.now (length docids.old) (length scores.old))) scores.old scores.new result value.new }
+    ensures fills { Fills (docids_of (read_list term bytes.now (length docids.old) (length scores.old))) docids.old docids.new result value.new }
+    ensures fills_2 { Fills (scores_of (read_list term bytes.now (length docids.old) (length scores.old))) scores.old scores.new result value.new }
 {
     let answer = list::read::read_list(bytes, term, docids, scores);
     crate::report::tell(answer, value)
@@ -30,7 +30,7 @@ pub extern "C" fn tagmurlen_write_list(
     out: &mut [u8],
     value: &mut u64,
 ) -> u32
-    ensures { Fills (writeList strip term docids.now scores.now (length out.old)) out.old out.new result value.new }
+    ensures { Fills (write_list strip term docids.now scores.now (length out.old)) out.old out.new result value.new }
 {
     let answer = list::write::write_list(strip, term, docids, scores, out);
     crate::report::tell(answer, value)

@@ -1,7 +1,7 @@
 // Hits as rows of two lent runs.
 ghost use Rattle.std.specs.Prelude.{◌≡◌, min};
-ghost use Rattle.rank.specs.Keep.{keptOf};
-ghost use Rattle.exhaustive.specs.Exhaustive.{paperOf};
+ghost use Rattle.rank.specs.Keep.{kept_of};
+ghost use Rattle.exhaustive.specs.Exhaustive.{paper_of};
 ghost use Rattle.embed.specs.Rows.{Fit, Rows, Hits};
 
 use exhaustive::all::Verdict;
@@ -18,7 +18,7 @@ pub(crate) fn shorter(a: usize, b: usize) -> usize
 // Stores the hits that a keeper holds to the front of two runs that have room for them; gives how many there are.
 fn put_rows(kept: Kept, docids: &mut [u32], scores: &mut [u32]) -> usize
     requires { Fit kept docids.old scores.old }
-    ensures { Rows (keptOf kept) docids.old scores.old docids.new scores.new result }
+    ensures { Rows (kept_of kept) docids.old scores.old docids.new scores.new result }
 {
     let from_docids = kept.docids;
     let from_scores = kept.scores;
@@ -35,7 +35,7 @@ pub(crate) fn tell_hits(
     value: &mut u64,
 ) -> u32
     requires { Fit kept docids.old scores.old }
-    ensures { Hits (paperOf verdict (keptOf kept)) docids.old scores.old docids.new scores.new result value.new }
+    ensures { Hits (paper_of verdict (kept_of kept)) docids.old scores.old docids.new scores.new result value.new }
 {
     match verdict {
         Verdict::Done => {

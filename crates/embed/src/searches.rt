@@ -1,6 +1,6 @@
 // The two rankings. For both the rows are as many as the shorter of the two runs that hits are written to has.
 ghost use Rattle.std.specs.Prelude.{min, length};
-ghost use Rattle.exhaustive.specs.Exhaustive.{rankAll};
+ghost use Rattle.exhaustive.specs.Exhaustive.{rank_all};
 ghost use Rattle.pruned.specs.Pruned.{searched};
 ghost use Rattle.embed.specs.Rows.{Hits};
 ghost use Rattle.embed.specs.Search.{Finds};
@@ -14,7 +14,7 @@ pub extern "C" fn tagmurlen_rank_all(
     scores: &mut [u32],
     value: &mut u64,
 ) -> u32
-    ensures { Hits (rankAll query.now bytes.now (min (length docids.old) (length scores.old))) docids.old scores.old docids.new scores.new result value.new }
+    ensures { Hits (rank_all query.now bytes.now (min (length docids.old) (length scores.old))) docids.old scores.old docids.new scores.new result value.new }
 {
     let rows = crate::rows::shorter(docids.len(), scores.len());
     let ranked = exhaustive::all::rank_all(query, bytes, rows);

@@ -7,52 +7,52 @@ use mathlib.Core.List.{List, [], ◌∷◌, ◌++◌}
 use native.Mathlib.Omega.{arith}
 use lib.ListN.{length, take, drop}
 use borrow.Author.Tests.{lt-ltb, le-ltb}
-use Rattle.model.specs.Limits.{maxDocid}
+use Rattle.model.specs.Limits.{max_docid}
 use Rattle.model.specs.Outcome.{refused, done}
 use Rattle.model.specs.Post.{Post, post}
 use Rattle.model.specs.Runs.{All, Bytes}
-use Rattle.block.specs.Body.{rightBody, bodyRun}
+use Rattle.block.specs.Body.{right_body, body_run}
 use Rattle.block.specs.declared.summary.Summary.{Summary}
 use Rattle.block.proofs.Contents.{right-run}
 use Rattle.block.proofs.Runs.{run-few, run-rises}
 use Rattle.shelf.specs.Walk as shelf
-use Rattle.shelf.specs.Blocks.{blocksLeft, Finds}
+use Rattle.shelf.specs.Blocks.{blocks_left, Finds}
 use Rattle.shelf.specs.declared.blocks.Reading.{Reading}
 use Rattle.rank.specs.Match.{Term}
 use Rattle.rank.specs.Run as run
-use Rattle.prune.specs.Prune.{postsOf, faultIn, earlier}
-use Rattle.scan.specs.Heads.{between, headPosts}
+use Rattle.prune.specs.Prune.{posts_of, fault_in, earlier}
+use Rattle.scan.specs.Heads.{between, head_posts}
 use Rattle.scan.specs.Load.{Loadable, Loads}
 use Rattle.scan.specs.declared.head.Head.{Head}
 use Rattle.scan.specs.declared.load.Loaded.TheVariants.{Stands, Wrong}
-use Rattle.scan.proofs.Loadings.{load-stands, load-refused, load-others}
+use Rattle.scan.proofs.Loadings.{load_stands, load-refused, load-others}
 use Rattle.exhaustive.specs.Lists.{body_of}
-use Rattle.exhaustive.specs.Merge.{onShelf, Chain, whole, Line, Refilled}
+use Rattle.exhaustive.specs.Merge.{on_shelf, Chain, whole, Line, Refilled}
 use Rattle.exhaustive.specs.declared.fill.Left.{Left}
-use Rattle.exhaustive.proofs.Chains.{Facts, sum-facts, left-low}
+use Rattle.exhaustive.proofs.Chains.{Facts, sum_facts, left_low}
 
-cons-nil : {x : Post} {xs : List Post} → x ∷ xs ≡ [] → ⊥
-cons-nil e = let z : ◌≡◌ {A = ℕ} 0 1 = cc in omega arith
+cons_nil : {x : Post} {xs : List Post} → x ∷ xs ≡ [] → ⊥
+cons_nil e = let z : ◌≡◌ {A = ℕ} 0 1 = cc in omega arith
 
 earlier-some : (a : ℕ) (g : Option ℕ) → earlier (some a) g ≡ none → ⊥
 earlier-some a none e = let z : ◌≡◌ {A = ℕ} 0 1 = cc in omega arith
 earlier-some a (some b) e = let z : ◌≡◌ {A = ℕ} 0 1 = cc in omega arith
 
-pub stands-some : (ds ss : List ℕ) (h : Head) → h.doc < run.none → headPosts ds ss h ≡ post h.doc h.score ∷ between ds ss h.at h.end
-unfolding headPosts
-stands-some ds ss h d = rw (lt-ltb h.doc run.none d)
+pub stands_some : (ds ss : List ℕ) (h : Head) → h.doc < run.none → head_posts ds ss h ≡ post h.doc h.score ∷ between ds ss h.at h.end
+unfolding head_posts
+stands_some ds ss h d = rw (lt-ltb h.doc run.none d)
 
-pub ended-none : (ds ss : List ℕ) (h : Head) → run.none ≤ h.doc → headPosts ds ss h ≡ []
-unfolding headPosts
+pub ended-none : (ds ss : List ℕ) (h : Head) → run.none ≤ h.doc → head_posts ds ss h ≡ []
+unfolding head_posts
 ended-none ds ss h d = rw (le-ltb h.doc run.none d)
 
 module _ (s ds ss : List ℕ) (t : ℕ) (h : Head) (l : Left) (w : Line s ds ss t h l) where
   -- it stands, or has nothing left, already
-  pub refill-stands : h.doc < run.none → Refilled s ds ss t h l ds ss h l
-  refill-stands d =
-      record { line = w; same = refl; fault = refl; settled = λ e. absurd (cons-nil (sym (stands-some ds ss h d) ∙ e)); others = λ u g o n. (refl, λ i. i) }
+  pub refill_stands : h.doc < run.none → Refilled s ds ss t h l ds ss h l
+  refill_stands d =
+      record { line = w; same = refl; fault = refl; settled = λ e. absurd (cons_nil (sym (stands_some ds ss h d) ∙ e)); others = λ u g o n. (refl, λ i. i) }
 
-  pub refill-last : blocksLeft s l.blocks ≡ [] → Refilled s ds ss t h l ds ss h l
+  pub refill-last : blocks_left s l.blocks ≡ [] → Refilled s ds ss t h l ds ss h l
   refill-last e = record { line = w; same = refl; fault = refl; settled = λ x. e; others = λ u g o n. (refl, λ i. i) }
 
   -- or its next block is loaded
@@ -60,15 +60,15 @@ module _ (s ds ss : List ℕ) (t : ℕ) (h : Head) (l : Left) (w : Line s ds ss 
     abbrev body : List ℕ
     body = take (e - v) (drop v s)
 
-    chained : Chain l.top (b ∷ blocksLeft s next)
+    chained : Chain l.top (b ∷ blocks_left s next)
     chained = rw f.left at w.behind.chain
 
     facts : Facts l.top m
-    facts = rw q at (sum-facts l.top b.sum chained.0)
+    facts = rw q at (sum_facts l.top b.sum chained.0)
 
-    low : m.greatest ≤ maxDocid
+    low : m.greatest ≤ max_docid
     low =
-        let a : All (λ (x : shelf.Block). x.sum.greatest ≤ maxDocid) (b ∷ blocksLeft s next) = rw f.left at (left-low s l.blocks bytes w.behind.rests) in
+        let a : All (λ (x : shelf.Block). x.sum.greatest ≤ max_docid) (b ∷ blocks_left s next) = rw f.left at (left_low s l.blocks bytes w.behind.rests) in
         rw q at a.0
 
     pub load_ok : Loadable m t ds ss
@@ -82,29 +82,29 @@ module _ (s ds ss : List ℕ) (t : ℕ) (h : Head) (l : Left) (w : Line s ds ss 
       scored = w.inside.scored;
     }
 
-    body-right : rightBody m body ≡ true → body_of b ≡ done (bodyRun m body)
+    body-right : right_body m body ≡ true → body_of b ≡ done (body_run m body)
     body-right r = rw (q, f.body, r)
 
-    body-wrong : rightBody m body ≡ false → body_of b ≡ refused 8 b.body_at
+    body-wrong : right_body m body ≡ false → body_of b ≡ refused 8 b.body_at
     body-wrong r = rw (q, f.body, r)
 
     module _ (ds' ss' : List ℕ) where
-      pub refill-wrong : Loads m body h.weight t ds ss ds' ss' Wrong → faultIn (onShelf s l.blocks) ≡ none → ⊥
+      pub refill-wrong : Loads m body h.weight t ds ss ds' ss' Wrong → fault_in (on_shelf s l.blocks) ≡ none → ⊥
       refill-wrong ld x =
           let r = body-wrong (load-refused m body h.weight t ds ss ds' ss' load_ok ld) in
-          let y : earlier (some b.body_at) (faultIn (onShelf s next)) ≡ none = rw (f.left, r) at x in
-          earlier-some b.body_at (faultIn (onShelf s next)) y
+          let y : earlier (some b.body_at) (fault_in (on_shelf s next)) ≡ none = rw (f.left, r) at x in
+          earlier-some b.body_at (fault_in (on_shelf s next)) y
 
       pub refill-next : (h' : Head) → run.none ≤ h.doc → Loads m body h.weight t ds ss ds' ss' (Stands h')
           → Refilled s ds ss t h l ds' ss' h' (record { blocks = next; top = m.greatest })
       refill-next h' d ld =
-          let r = load-stands m body h.weight t ds ss ds' ss' load_ok h' ld in
+          let r = load_stands m body h.weight t ds ss ds' ss' load_ok h' ld in
           let st = r.1 in
           let is = body-right r.0 in
-          let posts : headPosts ds' ss' h' ≡ bodyRun m body = ap {B = List Post} (λ (u : Term). u.posts) st.term in
+          let posts : head_posts ds' ss' h' ≡ body_run m body = ap {B = List Post} (λ (u : Term). u.posts) st.term in
           let few = run-few m body facts.order in
-          let had : headPosts ds ss h ++ postsOf (onShelf s l.blocks) ≡ bodyRun m body ++ postsOf (onShelf s next) = rw (ended-none ds ss h d, f.left, is) in
-          let more : 0 < length (bodyRun m body) = omega (arith, (right-run m body r.0).2, facts.some) in
+          let had : head_posts ds ss h ++ posts_of (on_shelf s l.blocks) ≡ body_run m body ++ posts_of (on_shelf s next) = rw (ended-none ds ss h d, f.left, is) in
+          let more : 0 < length (body_run m body) = omega (arith, (right-run m body r.0).2, facts.some) in
           record {
             line = record {
               mine = w.mine;

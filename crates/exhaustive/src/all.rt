@@ -1,9 +1,9 @@
 // The exhaustive ranker. Its refusals come in the paper's order: 1 to 5 by the query, 6 and 7 by the shelf, 9 by the rows, 8 by the bodies.
 ghost use Rattle.model.specs.Outcome.{refused};
-ghost use Rattle.rank.specs.Match.{anyList};
+ghost use Rattle.rank.specs.Match.{any_list};
 ghost use Rattle.prune.specs.Prune.{exhaustive};
-ghost use Rattle.exhaustive.specs.Exhaustive.{rankAll, Answers};
-ghost use Rattle.exhaustive.specs.Merge.{Mergeable, listsFrom};
+ghost use Rattle.exhaustive.specs.Exhaustive.{rank_all, Answers};
+ghost use Rattle.exhaustive.specs.Merge.{Mergeable, lists_from};
 
 use crate::wrong::WrongBody;
 use query::read::Verdict as Asking;
@@ -39,7 +39,7 @@ fn refuse(number: u8, at: usize) -> Ranked
 // The ranking of lists that were found, or the first wrong body among theirs.
 fn rank_found(shelf: &[u8], ats: [usize; 8], counts: [u8; 8], weights: [u8; 8], k: usize) -> Ranked
     requires { Mergeable shelf.now ats counts k }
-    ensures { Answers (exhaustive anyList k (listsFrom shelf.now weights ats counts)) result }
+    ensures { Answers (exhaustive any_list k (lists_from shelf.now weights ats counts)) result }
 {
     let merged = crate::merge::merge(shelf, ats, counts, weights, k);
     let kept = merged.kept;
@@ -57,7 +57,7 @@ fn rank_found(shelf: &[u8], ats: [usize; 8], counts: [u8; 8], weights: [u8; 8], 
 
 // The k best documents of a query, or the refusal; `rows` is how many hits the caller has room for.
 pub fn rank_all(query: &[u8], shelf: &[u8], rows: usize) -> Ranked
-    ensures { Answers (rankAll query.now shelf.now rows) result }
+    ensures { Answers (rank_all query.now shelf.now rows) result }
 {
     let asked = query::read::read_query(query);
     let q = asked.query;

@@ -1,6 +1,6 @@
 // The lists of a query in front of a merge: each with a block in its part of the buffers, and its next blocks on the shelf.
 ghost use Rattle.std.specs.Prelude.{◌≡◌, ◌+◌, ◌*◌, ◌<◌, ◌^◌};
-ghost use Rattle.exhaustive.specs.Merge.{readingAt, Line, Refills, Lines, Fills, nearer, horizonOf};
+ghost use Rattle.exhaustive.specs.Merge.{reading_at, Line, Refills, Lines, Fills, nearer, horizon_of};
 
 use scan::head::Head;
 use scan::load::Loaded;
@@ -22,7 +22,7 @@ pub enum Supply {
 // The blocks of a list that was walked; none for a term that has no list.
 pub(crate) fn reading_at(at: usize, count: u8) -> Reading
     requires { 0 < count → at + 8 + 12 * count < 2 ^ 64 }
-    ensures { result ≡ readingAt at count }
+    ensures { result ≡ reading_at at count }
 {
     if count == 0 {
         return Reading {
@@ -133,7 +133,7 @@ fn nearer_of(head: Head, left: Left, last: u32) -> u32
 
 // Up to where the documents can be merged: past it some list that stands needs its next block. Past all docids where no list stands.
 pub(crate) fn horizon(heads: [Head; 8], lefts: [Left; 8]) -> u32
-    ensures { result ≡ horizonOf heads lefts }
+    ensures { result ≡ horizon_of heads lefts }
 {
     let mut last = scan::head::END;
     let mut i: usize = 0;

@@ -2,8 +2,8 @@
 ghost use Rattle.std.specs.Prelude.{◌≡◌, ◌≤◌, length};
 ghost use Rattle.std.proofs.Math.Option.{some};
 ghost use Rattle.shelf.specs.Blocks.{Rests};
-ghost use Rattle.prune.specs.Prune.{earlier, faultIn};
-ghost use Rattle.exhaustive.specs.Merge.{onShelf, AllWalked, Addressed, startLefts, faultLeft, wrongOf, wrongHere};
+ghost use Rattle.prune.specs.Prune.{earlier, fault_in};
+ghost use Rattle.exhaustive.specs.Merge.{on_shelf, AllWalked, Addressed, start_lefts, fault_left, wrong_of, wrong_here};
 
 use block::summary::Summary;
 use shelf::blocks::{BlockStep, Reading};
@@ -16,7 +16,7 @@ pub enum WrongBody {
 
 // The earlier of a wrong body, if there is one, and another.
 fn sooner(w: WrongBody, at: usize) -> WrongBody
-    ensures { wrongOf result ≡ earlier (wrongOf w) (some at) }
+    ensures { wrong_of result ≡ earlier (wrong_of w) (some at) }
 {
     match w {
         WrongBody::At(o) => {
@@ -32,7 +32,7 @@ fn sooner(w: WrongBody, at: usize) -> WrongBody
 // The earlier of a wrong body and that of a block, if it is wrong: it stands from `start` to `end`, past its tag and its length.
 fn judged(shelf: &[u8], m: Summary, start: usize, end: usize, w: WrongBody) -> WrongBody
     requires { (3 ≤ start) × (start ≤ end) × (end ≤ length shelf.now) }
-    ensures { wrongOf result ≡ earlier (wrongOf w) (wrongHere shelf.now m start end) }
+    ensures { wrong_of result ≡ earlier (wrong_of w) (wrong_here shelf.now m start end) }
 {
     if block::body::right_body(&shelf[start..end], m) {
         return w;
@@ -43,7 +43,7 @@ fn judged(shelf: &[u8], m: Summary, start: usize, end: usize, w: WrongBody) -> W
 // The earlier of a wrong body and those of a list.
 fn wrong_in(shelf: &[u8], blocks: Reading, before: WrongBody) -> WrongBody
     requires { Rests shelf.now blocks }
-    ensures { wrongOf result ≡ earlier (wrongOf before) (faultIn (onShelf shelf.now blocks)) }
+    ensures { wrong_of result ≡ earlier (wrong_of before) (fault_in (on_shelf shelf.now blocks)) }
 {
     let mut r = blocks;
     let mut w = before;
@@ -63,7 +63,7 @@ fn wrong_in(shelf: &[u8], blocks: Reading, before: WrongBody) -> WrongBody
 // The first of all lists.
 pub(crate) fn first_wrong(shelf: &[u8], ats: [usize; 8], counts: [u8; 8]) -> WrongBody
     requires { AllWalked shelf.now ats counts × Addressed ats counts }
-    ensures { wrongOf result ≡ faultLeft shelf.now (startLefts ats counts) }
+    ensures { wrong_of result ≡ fault_left shelf.now (start_lefts ats counts) }
 {
     let mut w = WrongBody::Nowhere;
     let mut t: usize = 0;

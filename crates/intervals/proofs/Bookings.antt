@@ -9,21 +9,21 @@ use lib.Dec.{leb}
 use lib.ListN.{length, get_or, take, drop, replicate, length-append, length-drop, length-map}
 use lib.Seq.{take_at}
 use borrow.Author.Tests.{leb-true}
-use Rattle.model.specs.Limits.{maxDocid}
+use Rattle.model.specs.Limits.{max_docid}
 use Rattle.model.specs.Runs.{All, Holds}
 use Rattle.model.proofs.Lists.{and-true, both_ways}
 use Rattle.model.proofs.Storing.{holds-take}
-use Rattle.rank.specs.Keep.{noHits}
+use Rattle.rank.specs.Keep.{no_hits}
 use Rattle.rank.specs.declared.keep.Kept.{Kept}
-use Rattle.prune.specs.Cut.{Block, Listing, Rises, ceilingAt, cuts, addCuts, starts}
-use Rattle.prune.specs.Gather.{Fine, flatEdges}
-use Rattle.prune.proofs.Cuts.{cuts-asc}
-use Rattle.opening.specs.Table.{numbered, fromOf, listsIn, blockIn, sumBlock, Ends}
-use Rattle.intervals.specs.Book.{ceilingsIn, Raisable}
+use Rattle.prune.specs.Cut.{Block, Listing, Rises, ceiling_at, cuts, add_cuts, starts}
+use Rattle.prune.specs.Gather.{Fine, flat_edges}
+use Rattle.prune.proofs.Cuts.{cuts_asc}
+use Rattle.opening.specs.Table.{numbered, from_of, lists_in, block_in, sum_block, Ends}
+use Rattle.intervals.specs.Book.{ceilings_in, Raisable}
 use Rattle.intervals.specs.Run.{Runnable, Runs}
 use Rattle.intervals.specs.Blocks.{Walked, room_for, Books}
 use Rattle.intervals.specs.declared.run.Run.{Run}
-use Rattle.intervals.proofs.Tables.{table-fine, table-cuts, ceiling-same}
+use Rattle.intervals.proofs.Tables.{table_fine, table-cuts, ceiling-same}
 
 rises-same : (A B : ℕ → Block) (p n f : ℕ) → ((i : ℕ) → (A i).least ≡ (B i).least) → ((i : ℕ) → (A i).greatest ≡ (B i).greatest) → Rises p (numbered A n f) → Rises p (numbered B n f)
 rises-same A B p zero f l g r = tt
@@ -44,86 +44,86 @@ front-part n xs = let e : n - 0 ≡ n = omega arith in rw e
 
 module _ (s ends los his tops counts bodies weights : List ℕ) (k : ℕ) (ok : Walked s ends los his tops counts bodies weights k) where
   abbrev B : ℕ → Block
-  B = blockIn s los his tops counts bodies
+  B = block_in s los his tops counts bodies
 
   abbrev ls : List Listing
-  ls = listsIn B ends weights
+  ls = lists_in B ends weights
 
-  in-los : (t : ℕ) → t < length ends → get_or ends t 0 ≤ length los
-  in-los t l = ok.least-in t (omega (arith, ok.lists))
+  in_los : (t : ℕ) → t < length ends → get_or ends t 0 ≤ length los
+  in_los t l = ok.least_in t (omega (arith, ok.lists))
 
-  in-his : (t : ℕ) → t < length ends → get_or ends t 0 ≤ length his
-  in-his t l = ok.greatest-in t (omega (arith, ok.lists))
+  in_his : (t : ℕ) → t < length ends → get_or ends t 0 ≤ length his
+  in_his t l = ok.greatest_in t (omega (arith, ok.lists))
 
-  in-tops : (t : ℕ) → t < length ends → get_or ends t 0 ≤ length tops
-  in-tops t l = ok.top_in t (omega (arith, ok.lists))
+  in_tops : (t : ℕ) → t < length ends → get_or ends t 0 ≤ length tops
+  in_tops t l = ok.top_in t (omega (arith, ok.lists))
 
   seen : (t : ℕ) → t < length ends → Ends B ends (length los) t
-  seen t l = let e = ok.seen t (omega (arith, ok.lists)) in record { order = e.order; most = e.most; upto = in-los t l; rises = e.rises; below = e.below }
+  seen t l = let e = ok.seen t (omega (arith, ok.lists)) in record { order = e.order; most = e.most; upto = in_los t l; rises = e.rises; below = e.below }
 
-  pub blocks-fine : Fine maxDocid 0 ends los his
-  blocks-fine = table-fine B los his ends (λ i. refl) (λ i. refl) in-los in-his seen
+  pub blocks_fine : Fine max_docid 0 ends los his
+  blocks_fine = table_fine B los his ends (λ i. refl) (λ i. refl) in_los in_his seen
 
   -- ---- the cuts
-  module _ (old run : List ℕ) (m : ℕ) (h : Holds old (addCuts maxDocid [] (flatEdges 0 ends los his)) run m) where
-    cuts_are : take m run ≡ cuts maxDocid ls
-    cuts_are = holds-take old (addCuts maxDocid [] (flatEdges 0 ends los his)) run m h ∙ table-cuts B los his ends (λ i. refl) (λ i. refl) in-los in-his seen weights
+  module _ (old run : List ℕ) (m : ℕ) (h : Holds old (add_cuts max_docid [] (flat_edges 0 ends los his)) run m) where
+    cuts_are : take m run ≡ cuts max_docid ls
+    cuts_are = holds-take old (add_cuts max_docid [] (flat_edges 0 ends los his)) run m h ∙ table-cuts B los his ends (λ i. refl) (λ i. refl) in_los in_his seen weights
 
-    pub starts-are : take (m + 1) (1 ∷ run) ≡ starts maxDocid ls
-    starts-are = rw (add-one m) (ap {B = List ℕ} (λ t. 1 ∷ t) cuts_are)
+    pub starts_are : take (m + 1) (1 ∷ run) ≡ starts max_docid ls
+    starts_are = rw (add-one m) (ap {B = List ℕ} (λ t. 1 ∷ t) cuts_are)
 
-    pub count-is : m + 1 ≡ length (starts maxDocid ls)
+    pub count-is : m + 1 ≡ length (starts max_docid ls)
     count-is =
-        let e : length (addCuts maxDocid [] (flatEdges 0 ends los his)) ≡ length (cuts maxDocid ls) = ap length (table-cuts B los his ends (λ i. refl) (λ i. refl) in-los in-his seen weights) in
+        let e : length (add_cuts max_docid [] (flat_edges 0 ends los his)) ≡ length (cuts max_docid ls) = ap length (table-cuts B los his ends (λ i. refl) (λ i. refl) in_los in_his seen weights) in
         omega (arith, h.count)
 
     pub cuts-few : length run ≡ length old → m ≤ length run
     cuts-few e =
-        omega (arith, h.count, ap length h.whole, length-append (addCuts maxDocid [] (flatEdges 0 ends los his)) (drop m old), length-drop m old)
+        omega (arith, h.count, ap length h.whole, length-append (add_cuts max_docid [] (flat_edges 0 ends los his)) (drop m old), length-drop m old)
 
     -- ---- the first docids
     module _ (fs fs' : List ℕ) (f : Holds fs (take (m + 1) (1 ∷ run)) fs' (m + 1)) where
-      pub firsts-are : take (m + 1 - 0) (drop 0 fs') ≡ starts maxDocid ls
-      firsts-are = front-part (m + 1) fs' ∙ holds-take fs (take (m + 1) (1 ∷ run)) fs' (m + 1) f ∙ starts-are
+      pub firsts_are : take (m + 1 - 0) (drop 0 fs') ≡ starts max_docid ls
+      firsts_are = front-part (m + 1) fs' ∙ holds-take fs (take (m + 1) (1 ∷ run)) fs' (m + 1) f ∙ starts_are
 
       pub blocks-raise : (zeros : List ℕ) → m + 1 ≤ length zeros → zeros ≡ replicate (length zeros) 0 → Raisable los his tops ends weights (take (m + 1 - 0) (drop 0 fs')) zeros
-      blocks-raise zeros l z = rw firsts-are (record {
-        rises = (omega arith, cuts-asc maxDocid ls);
+      blocks-raise zeros l z = rw firsts_are (record {
+        rises = (omega arith, cuts_asc max_docid ls);
         room = omega (arith, count-is);
         zeros = z;
         few = omega (arith, ok.lists);
         weighted = omega (arith, ok.lists, ok.weighted);
-        least = in-los;
-        greatest = in-his;
-        top = in-tops;
+        least = in_los;
+        greatest = in_his;
+        top = in_tops;
         seen = λ t x. let e = seen t x in
             record {
               order = e.order;
               most = e.most;
               upto = e.upto;
-              rises = rises-same B (sumBlock los his tops) 0 (get_or ends t 0 - fromOf ends t) (fromOf ends t) (λ i. refl) (λ i. refl) e.rises;
-              below = below-same B (sumBlock los his tops) maxDocid (get_or ends t 0 - fromOf ends t) (fromOf ends t) (λ i. refl) e.below;
+              rises = rises-same B (sum_block los his tops) 0 (get_or ends t 0 - from_of ends t) (from_of ends t) (λ i. refl) (λ i. refl) e.rises;
+              below = below-same B (sum_block los his tops) max_docid (get_or ends t 0 - from_of ends t) (from_of ends t) (λ i. refl) e.below;
             };
       })
 
       -- ---- the ceilings
-      module _ (zeros tall : List ℕ) (c : tall ≡ ceilingsIn los his tops ends weights (take (m + 1 - 0) (drop 0 fs')) ++ drop (length (take (m + 1 - 0) (drop 0 fs'))) zeros) where
-        pub tall-is : take (m + 1) tall ≡ map (ceilingAt ls) (starts maxDocid ls)
-        tall-is =
-            let same : ceilingsIn los his tops ends weights (starts maxDocid ls) ≡ map (ceilingAt ls) (starts maxDocid ls) =
-            map_on (ceilingAt (listsIn (sumBlock los his tops) ends weights)) (ceilingAt ls) (starts maxDocid ls)
-            (λ d. ceiling-same (sumBlock los his tops) B ends weights d (length ends) 0 (λ i. refl) (λ i. refl) (λ i. refl)) in
-            let long : length (ceilingsIn los his tops ends weights (starts maxDocid ls)) ≡ m + 1 = length-map (starts maxDocid ls) (ceilingAt (listsIn (sumBlock los his tops) ends weights)) ∙ sym count-is in
-            let d : tall ≡ ceilingsIn los his tops ends weights (starts maxDocid ls) ++ drop (length (starts maxDocid ls)) zeros = rw firsts-are at c in
-            rw d (take_at (ceilingsIn los his tops ends weights (starts maxDocid ls)) (drop (length (starts maxDocid ls)) zeros) (m + 1) long) ∙ same
+      module _ (zeros tall : List ℕ) (c : tall ≡ ceilings_in los his tops ends weights (take (m + 1 - 0) (drop 0 fs')) ++ drop (length (take (m + 1 - 0) (drop 0 fs'))) zeros) where
+        pub tall_is : take (m + 1) tall ≡ map (ceiling_at ls) (starts max_docid ls)
+        tall_is =
+            let same : ceilings_in los his tops ends weights (starts max_docid ls) ≡ map (ceiling_at ls) (starts max_docid ls) =
+            map_on (ceiling_at (lists_in (sum_block los his tops) ends weights)) (ceiling_at ls) (starts max_docid ls)
+            (λ d. ceiling-same (sum_block los his tops) B ends weights d (length ends) 0 (λ i. refl) (λ i. refl) (λ i. refl)) in
+            let long : length (ceilings_in los his tops ends weights (starts max_docid ls)) ≡ m + 1 = length-map (starts max_docid ls) (ceiling_at (lists_in (sum_block los his tops) ends weights)) ∙ sym count-is in
+            let d : tall ≡ ceilings_in los his tops ends weights (starts max_docid ls) ++ drop (length (starts max_docid ls)) zeros = rw firsts_are at c in
+            rw d (take_at (ceilings_in los his tops ends weights (starts max_docid ls)) (drop (length (starts max_docid ls)) zeros) (m + 1) long) ∙ same
 
         pub blocks-run : (ms : List ℕ) → m + 1 ≤ length ms → m ≤ 1024 → Runnable s ends los his tops counts bodies weights k (take (m + 1 - 0) (drop 0 fs')) (take (m + 1 - 0) (drop 0 tall)) ms
-        blocks-run ms l few = rw (firsts-are, front-part (m + 1) tall, tall-is) (record {
+        blocks-run ms l few = rw (firsts_are, front-part (m + 1) tall, tall_is) (record {
           lists = ok.lists;
           weighted = ok.weighted;
           seen = ok.seen;
-          least-in = ok.least-in;
-          greatest-in = ok.greatest-in;
+          least_in = ok.least_in;
+          greatest_in = ok.greatest_in;
           load = ok.load;
           first = refl;
           ceiled = refl;
@@ -137,21 +137,21 @@ module _ (s ends los his tops counts bodies weights : List ℕ) (k : ℕ) (ok : 
             → Runs s ends los his tops counts bodies weights k (take (m + 1 - 0) (drop 0 fs')) ms ms' r
             → Books s ends los his tops counts bodies weights k fs cs ms fs' cs' ms' (record { intervals = m + 1; run = r })
         blocks-done cs cs' ms ms' r x e g u =
-            let n : x ≡ m + 1 = omega (arith, g.count, ap length tall-is, length-map (starts maxDocid ls) (ceilingAt ls), count-is) in
+            let n : x ≡ m + 1 = omega (arith, g.count, ap length tall_is, length-map (starts max_docid ls) (ceiling_at ls), count-is) in
             record {
               filled = λ x. record {
                 intervals = count-is;
-                firsts = f.whole ∙ ap {B = List ℕ} (λ t. t ++ drop (m + 1) fs) starts-are;
-                ceilings = g.whole ∙ rw (tall-is, n);
-                run = rw firsts-are at u;
+                firsts = f.whole ∙ ap {B = List ℕ} (λ t. t ++ drop (m + 1) fs) starts_are;
+                ceilings = g.whole ∙ rw (tall_is, n);
+                run = rw firsts_are at u;
               };
-              refused = λ x. both_ways (room_for (length (starts maxDocid ls)) (length fs) (length cs) (length ms)) (rw count-is at e) x;
+              refused = λ x. both_ways (room_for (length (starts max_docid ls)) (length fs) (length cs) (length ms)) (rw count-is at e) x;
             }
 
-    pub blocks-short : (fs cs ms : List ℕ) (t : Kept) → t ≡ noHits → room_for (m + 1) (length fs) (length cs) (length ms) ≡ false
+    pub blocks-short : (fs cs ms : List ℕ) (t : Kept) → t ≡ no_hits → room_for (m + 1) (length fs) (length cs) (length ms) ≡ false
         → Books s ends los his tops counts bodies weights k fs cs ms fs cs ms (record { intervals = 0; run = record { kept = t; opened = 0; wrong = 0 } })
     blocks-short fs cs ms t z e = record {
-      filled = λ x. both_ways (room_for (length (starts maxDocid ls)) (length fs) (length cs) (length ms)) x (rw count-is at e);
+      filled = λ x. both_ways (room_for (length (starts max_docid ls)) (length fs) (length cs) (length ms)) x (rw count-is at e);
       refused = λ x. record { intervals = refl; firsts = refl; ceilings = refl; marks = refl; run = rw z };
     }
 

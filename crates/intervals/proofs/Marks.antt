@@ -6,9 +6,9 @@ use mathlib.Core.List.{List, [], ◌∷◌, ◌++◌}
 use native.Mathlib.Omega.{arith}
 use lib.ListN.{length, get_or, set, replicate, length-replicate, length-set}
 use lib.Seq.{sets}
-use Rattle.model.proofs.Lists.{up-to-next}
+use Rattle.model.proofs.Lists.{up_to_next}
 use Rattle.model.proofs.Storing.{sets-append}
-use Rattle.intervals.specs.Book.{opensBy, Skips}
+use Rattle.intervals.specs.Book.{opens_by, Skips}
 
 replicate_more : (n v : ℕ) → replicate (suc n) v ≡ replicate n v ++ (v ∷ [])
 replicate_more zero v = refl
@@ -22,13 +22,13 @@ pub record Marking (old : List ℕ) (from upto v : ℕ) (row : List ℕ) (i : �
   pub same : length row ≡ length old
   pub done : row ≡ sets old from (replicate (i - from) v)
 
-pub marking-none : (old : List ℕ) (from upto v : ℕ) → from ≤ upto → Marking old from upto v old from
-marking-none old from upto v l =
+pub marking_none : (old : List ℕ) (from upto v : ℕ) → from ≤ upto → Marking old from upto v old from
+marking_none old from upto v l =
     let e : from - from ≡ 0 = omega arith in
     record { on = omega arith; within = l; same = refl; done = rw e }
 
-pub marking-more : (old : List ℕ) (from upto v : ℕ) (row : List ℕ) (i : ℕ) → i < upto → Marking old from upto v row i → Marking old from upto v (set row i v) (i + 1)
-marking-more old from upto v row i l m =
+pub marking_more : (old : List ℕ) (from upto v : ℕ) (row : List ℕ) (i : ℕ) → i < upto → Marking old from upto v row i → Marking old from upto v (set row i v) (i + 1)
+marking_more old from upto v row i l m =
     let n : i + 1 - from ≡ suc (i - from) = omega (arith, m.on) in
     let p : from + length (replicate (i - from) v) ≡ i = omega (arith, length-replicate (i - from) v, m.on) in
     record {
@@ -38,28 +38,28 @@ marking-more old from upto v row i l m =
       done = rw (n, replicate_more (i - from) v, sets-append old from (replicate (i - from) v) (v ∷ []), p, ← m.done);
     }
 
-pub marking-done : (old : List ℕ) (from upto v : ℕ) (row : List ℕ) (i : ℕ) → upto ≤ i → Marking old from upto v row i → row ≡ sets old from (replicate (upto - from) v)
-marking-done old from upto v row i l m = let e : i ≡ upto = omega (arith, m.within) in rw e at m.done
+pub marking_done : (old : List ℕ) (from upto v : ℕ) (row : List ℕ) (i : ℕ) → upto ≤ i → Marking old from upto v row i → row ≡ sets old from (replicate (upto - from) v)
+marking_done old from upto v row i l m = let e : i ≡ upto = omega (arith, m.within) in rw e at m.done
 
 -- ---- the intervals passed over
 
 pub record Passing (ceilings : List ℕ) (n kth from : ℕ) (old row : List ℕ) (i : ℕ) : Type 0 where
   pub marking : Marking old from n 0 row i
-  pub shut : (j : ℕ) → from ≤ j → j < i → opensBy kth (get_or ceilings j 0) ≡ false
+  pub shut : (j : ℕ) → from ≤ j → j < i → opens_by kth (get_or ceilings j 0) ≡ false
 
-pub passing-none : (ceilings : List ℕ) (n kth from : ℕ) (old : List ℕ) → from ≤ n → Passing ceilings n kth from old old from
-passing-none ceilings n kth from old l = record { marking = marking-none old from n 0 l; shut = λ j a b. absurd (omega arith) }
+pub passing_none : (ceilings : List ℕ) (n kth from : ℕ) (old : List ℕ) → from ≤ n → Passing ceilings n kth from old old from
+passing_none ceilings n kth from old l = record { marking = marking_none old from n 0 l; shut = λ j a b. absurd (omega arith) }
 
-pub passing-more : (ceilings : List ℕ) (n kth from : ℕ) (old row : List ℕ) (i : ℕ) → i < n → opensBy kth (get_or ceilings i 0) ≡ false
+pub passing_more : (ceilings : List ℕ) (n kth from : ℕ) (old row : List ℕ) (i : ℕ) → i < n → opens_by kth (get_or ceilings i 0) ≡ false
     → Passing ceilings n kth from old row i → Passing ceilings n kth from old (set row i 0) (i + 1)
-passing-more ceilings n kth from old row i l e p = record {
-  marking = marking-more old from n 0 row i l p.marking;
-  shut = up-to-next (λ j. opensBy kth (get_or ceilings j 0) ≡ false) from i p.shut e;
+passing_more ceilings n kth from old row i l e p = record {
+  marking = marking_more old from n 0 row i l p.marking;
+  shut = up_to_next (λ j. opens_by kth (get_or ceilings j 0) ≡ false) from i p.shut e;
 }
 
-pub passing-done : (ceilings : List ℕ) (n kth from : ℕ) (old row : List ℕ) (i : ℕ) → (i < n → opensBy kth (get_or ceilings i 0) ≡ true)
+pub passing_done : (ceilings : List ℕ) (n kth from : ℕ) (old row : List ℕ) (i : ℕ) → (i < n → opens_by kth (get_or ceilings i 0) ≡ true)
     → Passing ceilings n kth from old row i → Skips ceilings n kth from old row i
-passing-done ceilings n kth from old row i o p = record {
+passing_done ceilings n kth from old row i o p = record {
   on = p.marking.on;
   upto = p.marking.within;
   shut = p.shut;

@@ -2,7 +2,7 @@
 ghost use Rattle.std.specs.Prelude.{◌+◌, ◌-◌, ◌≤◌, ◌<◌, ◌≡◌, length, get_or, take, drop, replicate, ◌∷◌, ◌++◌};
 ghost use Rattle.std.proofs.lemmas.List.Edits.{sets};
 ghost use Rattle.model.specs.Runs.{Holds};
-ghost use Rattle.intervals.specs.Book.{ceilingsIn, Raisable, Skips};
+ghost use Rattle.intervals.specs.Book.{ceilings_in, Raisable, Skips};
 
 // The first docid of an interval: 1, then the cuts.
 fn start_at(cuts: &[u32], i: usize) -> u32
@@ -38,7 +38,7 @@ pub(crate) fn fill_ceilings(
     out: &mut [u32],
 )
     requires { Raisable los.now his.now tops.now ends.now weights.now starts.now out.old }
-    ensures { out.new ≡ ceilingsIn los.now his.now tops.now ends.now weights.now starts.now ++ drop (length starts.now) out.old }
+    ensures { out.new ≡ ceilings_in los.now his.now tops.now ends.now weights.now starts.now ++ drop (length starts.now) out.old }
 {
     let mut from = 0;
     let mut t = 0;

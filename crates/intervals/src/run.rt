@@ -1,9 +1,9 @@
 // The search over intervals: those that are shut are passed over, the others are opened, in docid order.
 ghost use Rattle.std.specs.Prelude.{◌≡◌, [], ◌+◌, ◌≤◌, ◌<◌, length, get_or};
-ghost use Rattle.model.specs.Limits.{maxDocid};
+ghost use Rattle.model.specs.Limits.{max_docid};
 ghost use Rattle.rank.specs.Rank.{kth};
-ghost use Rattle.rank.specs.Keep.{keptOf};
-ghost use Rattle.opening.specs.Table.{fromOf};
+ghost use Rattle.rank.specs.Keep.{kept_of};
+ghost use Rattle.opening.specs.Table.{from_of};
 ghost use Rattle.intervals.specs.Run.{last_at, Begins, Idles, Runnable, Runs};
 
 use rank::keep::Kept;
@@ -21,7 +21,7 @@ pub struct Run {
 // Where a list's blocks begin.
 fn from_of(ends: &[usize], t: usize) -> usize
     requires { t ≤ length ends.now }
-    ensures { result ≡ fromOf ends.now t }
+    ensures { result ≡ from_of ends.now t }
 {
     if t == 0 {
         return 0;
@@ -60,7 +60,7 @@ fn idle(weights: &[u8]) -> [Head; 8]
 // The last docid of an interval.
 fn last_of(starts: &[u32], i: usize) -> u32
     requires { (i < length starts.now) × (i + 1 < length starts.now → 0 < get_or starts.now (i + 1) 0) }
-    ensures { result ≡ last_at maxDocid starts.now i }
+    ensures { result ≡ last_at max_docid starts.now i }
 {
     let next = i + 1;
     if next < starts.len() {
@@ -72,7 +72,7 @@ fn last_of(starts: &[u32], i: usize) -> u32
 // The kth score kept, 0 where fewer than k are kept.
 fn kth_of(kept: Kept, k: usize) -> u32
     requires { (kept.n ≤ k) × (k ≤ 100) × (0 < k) }
-    ensures { result ≡ kth k (keptOf kept) }
+    ensures { result ≡ kth k (kept_of kept) }
 {
     let scores = kept.scores;
     rank::keep::kth_in(&scores, kept.n, k)

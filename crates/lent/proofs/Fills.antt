@@ -1,5 +1,5 @@
 -- What every walk needs that lends its rows on to `fill`.
---     kept-val                the machine value of a keeper
+--     kept_val                the machine value of a keeper
 --     Fill, to, asked         the contract of `fill`, what it is passed, and that the caller has what it asks
 -- `asked` takes `Logic`. The rest assumes nothing.
 use mathlib.Core.List.{List, [], ◌∷◌}
@@ -27,8 +27,8 @@ use Rattle.lent.specs.contracts.rows.Hit as T
 use Rattle.lent.specs.contracts.rows.fill as fill
 use Rattle.lent.proofs.Views.{slice-val}
 
-abbrev pub kept-val : Kept → Val
-kept-val k = LL.tuple_val K.the_type K'.the_laws ((K.the_type).to k)
+abbrev pub kept_val : Kept → Val
+kept_val k = LL.tuple_val K.the_type K'.the_laws ((K.the_type).to k)
 
 module _ {M : Type 1} {𝓤 : Ura M} (𝓛 : Logic 𝓤) (mem : Memory → SProp 𝓤) (run : Routine → Fun 𝓤) where
   abbrev pub Fill : Contract 𝓤
@@ -36,7 +36,7 @@ module _ {M : Type 1} {𝓤 : Ura M} (𝓛 : Logic 𝓤) (mem : Memory → SProp
 
   module _ (κ : Lft) (q : Share) (rows : MutBor (List Hit)) (k : Kept) where
     abbrev pub to : Fill.Ghost
-    to = (((κ, tt), (q, tt), tt, (rows, (k, tt)), (slice-val rows ∷ [], (kept-val k ∷ [], tt))), tt)
+    to = (((κ, tt), (q, tt), tt, (rows, (k, tt)), (slice-val rows ∷ [], (kept_val k ∷ [], tt))), tt)
 
-    pub asked : ent 𝓤 (⋆ 𝓛 ((‵ (flft κ q) ⊛ ‵ ftrue) ∷ ‵ (owns (MutSlice (named 0) κ T.the_row ∷ K.the_row ∷ []) (rows, (k, tt)) (slice-val rows ∷ [], (kept-val k ∷ [], tt))) ∷ [])) (Fill.pre to)
-    asked = qed 𝓛 ((‵ (flft κ q) ⊛ ‵ ftrue) ∷ ‵ (owns (MutSlice (named 0) κ T.the_row ∷ K.the_row ∷ []) (rows, (k, tt)) (slice-val rows ∷ [], (kept-val k ∷ [], tt))) ∷ []) ∵ join ! $ frame ! $ done !
+    pub asked : ent 𝓤 (⋆ 𝓛 ((‵ (flft κ q) ⊛ ‵ ftrue) ∷ ‵ (owns (MutSlice (named 0) κ T.the_row ∷ K.the_row ∷ []) (rows, (k, tt)) (slice-val rows ∷ [], (kept_val k ∷ [], tt))) ∷ [])) (Fill.pre to)
+    asked = qed 𝓛 ((‵ (flft κ q) ⊛ ‵ ftrue) ∷ ‵ (owns (MutSlice (named 0) κ T.the_row ∷ K.the_row ∷ []) (rows, (k, tt)) (slice-val rows ∷ [], (kept_val k ∷ [], tt))) ∷ []) ∵ join ! $ frame ! $ done !

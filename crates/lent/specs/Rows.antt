@@ -1,9 +1,9 @@
 -- "Hits are written into lent rows, a docid beside its score; rows past the last hit are not touched". Assumes nothing.
 use Rattle.std.specs.Prelude.{ℕ, ◌≤◌, min, ◌≡◌, List, [], map, ◌++◌, length, drop, get_or}
-use Rattle.model.specs.Limits.{maxK}
+use Rattle.model.specs.Limits.{max_k}
 use Rattle.model.specs.Outcome.{Outcome, refused, done}
 use Rattle.rank.specs.Rank as rank
-use Rattle.rank.specs.Keep.{keptOf}
+use Rattle.rank.specs.Keep.{kept_of}
 use Rattle.rank.specs.declared.keep.Kept.{Kept}
 use Rattle.exhaustive.specs.declared.all.Verdict.{Verdict}
 use Rattle.exhaustive.specs.declared.all.Verdict.TheVariants.{Done, Refused}
@@ -14,8 +14,8 @@ abbrev pub row_of : rank.Hit → Hit
 row_of h = record { docid = h.doc; score = h.score }
 
 -- the rows with hits in front
-abbrev pub withHits : List rank.Hit → List Hit → List Hit
-withHits hs rows = map row_of hs ++ drop (length hs) rows
+abbrev pub with_hits : List rank.Hit → List Hit → List Hit
+with_hits hs rows = map row_of hs ++ drop (length hs) rows
 
 -- ---- an outcome as a caller with rows gets it
 
@@ -29,42 +29,42 @@ offset_of (done x) = 0
 offset_of (refused n o) = o
 
 -- "Counts in a refusal are 0 and outputs are untouched": no hit is written
-abbrev pub hitsOf : Outcome (List rank.Hit) → List rank.Hit
-hitsOf (done hs) = hs
-hitsOf (refused n o) = []
+abbrev pub hits_of : Outcome (List rank.Hit) → List rank.Hit
+hits_of (done hs) = hs
+hits_of (refused n o) = []
 
 -- the numbers that are handed back
 pub record Told (o : Outcome (List rank.Hit)) (n at c : ℕ) : Type 0 where
   pub number : n ≡ number_of o
   pub offset : at ≡ offset_of o
-  pub hits : c ≡ length (hitsOf o)
+  pub hits : c ≡ length (hits_of o)
 
 -- and what the rows then hold
 pub record Rowed (o : Outcome (List rank.Hit)) (n at c : ℕ) (old new : List Hit) : Type 0 where
   pub told : Told o n at c
-  pub rows : new ≡ withHits (hitsOf o) old
+  pub rows : new ≡ with_hits (hits_of o) old
 
 -- ---- the contracts behind it
 
-abbrev pub hitAt : Kept → ℕ → Hit
-hitAt t i = record { docid = get_or t.docids i 0; score = get_or t.scores i 0 }
+abbrev pub hit_at : Kept → ℕ → Hit
+hit_at t i = record { docid = get_or t.docids i 0; score = get_or t.scores i 0 }
 
 -- how many hits there is room for
 pub record Counts (t : Kept) (m n : ℕ) : Type 0 where
-  pub count : n ≡ min (length (keptOf t)) m
-  pub most : n ≤ maxK
+  pub count : n ≡ min (length (kept_of t)) m
+  pub most : n ≤ max_k
 
 -- what a verdict tells
 abbrev pub number_in : Verdict → ℕ
 number_in Done = 0
 number_in (Refused n o) = n
 
-abbrev pub offsetIn : Verdict → ℕ
-offsetIn Done = 0
-offsetIn (Refused n o) = o
+abbrev pub offset_in : Verdict → ℕ
+offset_in Done = 0
+offset_in (Refused n o) = o
 
 -- an outcome before its hits are written
 pub record Tells (o : Outcome (List rank.Hit)) (m : ℕ) (n at c : ℕ) (t : Kept) : Type 0 where
   pub told : Told o n at c
-  pub kept : keptOf t ≡ hitsOf o
-  pub room : length (hitsOf o) ≤ m
+  pub kept : kept_of t ≡ hits_of o
+  pub room : length (hits_of o) ≤ m

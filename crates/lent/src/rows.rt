@@ -1,11 +1,11 @@
 // Hits written into lent rows, a docid beside its score. All decisions are made over numbers and values; the functions that hold the rows only pass
 // them on and fill them.
 ghost use Rattle.std.specs.Prelude.{◌≡◌, ◌<◌, length, take};
-ghost use Rattle.rank.specs.Keep.{keptOf};
-ghost use Rattle.exhaustive.specs.Exhaustive.{rankAll};
+ghost use Rattle.rank.specs.Keep.{kept_of};
+ghost use Rattle.exhaustive.specs.Exhaustive.{rank_all};
 ghost use Rattle.pruned.specs.Pruned.{searched};
 ghost use Rattle.lent.specs.Search.{Booked, Searched};
-ghost use Rattle.lent.specs.Rows.{hitAt, withHits, Counts, number_in, offsetIn, Tells, Rowed};
+ghost use Rattle.lent.specs.Rows.{hit_at, with_hits, Counts, number_in, offset_in, Tells, Rowed};
 
 use exhaustive::all::Verdict;
 use rank::keep::Kept;
@@ -21,7 +21,7 @@ pub struct Hit {
 // The hit at a place of the keeper.
 fn hit_at(kept: Kept, i: usize) -> Hit
     requires { i < 100 }
-    ensures { result ≡ hitAt kept i }
+    ensures { result ≡ hit_at kept i }
 {
     Hit {
         docid: kept.docids[i],
@@ -45,7 +45,7 @@ fn held(kept: Kept, room: usize) -> usize
 
 // The keeper's hits are written into the first rows, as many as there are rows; the rows past them are not touched.
 pub fn fill<'a>(rows: &'a mut [Hit], kept: Kept)
-    ensures { rows.new ≡ withHits (take (length rows.old) (keptOf kept)) rows.old }
+    ensures { rows.new ≡ with_hits (take (length rows.old) (kept_of kept)) rows.old }
 {
     let n = held(kept, rows.len());
     let mut i: usize = 0;
@@ -67,7 +67,7 @@ fn number_of(verdict: Verdict) -> u32
 
 // The refusal's offset, 0 where there is none.
 fn offset_of(verdict: Verdict) -> u64
-    ensures { result ≡ offsetIn verdict }
+    ensures { result ≡ offset_in verdict }
 {
     match verdict {
         Verdict::Done => 0,
@@ -95,7 +95,7 @@ struct Ranking {
 
 // The ranking for a number of rows.
 fn rank<'a>(query: &'a [u8], shelf: &'a [u8], room: usize) -> Ranking
-    ensures { Tells (rankAll query.now shelf.now room) room result.answer.number result.answer.offset result.answer.hits result.kept }
+    ensures { Tells (rank_all query.now shelf.now room) room result.answer.number result.answer.offset result.answer.hits result.kept }
 {
     let ranked = exhaustive::all::rank_all(query, shelf, room);
     let verdict = ranked.verdict;
@@ -117,7 +117,7 @@ pub extern "C" fn tagmurlen_rank_rows<'a>(
     shelf: &'a [u8],
     rows: &'a mut [Hit],
 ) -> RankedRows
-    ensures { Rowed (rankAll query.now shelf.now (length rows.old)) result.number result.offset result.hits rows.old rows.new }
+    ensures { Rowed (rank_all query.now shelf.now (length rows.old)) result.number result.offset result.hits rows.old rows.new }
 {
     let ranking = rank(query, shelf, rows.len());
     let kept = ranking.kept;

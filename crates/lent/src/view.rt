@@ -1,8 +1,8 @@
 // A list as it stands in the lent shelf: the numbers of its summaries, and its bodies as parts of the shelf's own slice. Each function takes the
 // view apart and calls one that knows only slices and plain values.
 ghost use Rattle.std.specs.Prelude.{◌≡◌};
-ghost use Rattle.lookup.specs.Find.{shownOf, found};
-ghost use Rattle.lookup.specs.Show.{summaryShown, bodyShown};
+ghost use Rattle.lookup.specs.Find.{shown_of, found};
+ghost use Rattle.lookup.specs.Show.{summary_shown, body_shown};
 ghost use Rattle.lent.specs.View.{Inside, IsPart};
 
 use lookup::find::{BodyShown, Shown, SummaryShown};
@@ -16,7 +16,7 @@ pub struct ListView<'a> {
 
 // The list of a term, shown in place: 6 and 7, then 12.
 pub fn view<'a>(shelf: &'a [u8], term: u32) -> ListView<'a>
-    ensures { (result.shelf ≡ shelf.entry) × (result.place ≡ shownOf (found term shelf.now)) }
+    ensures { (result.shelf ≡ shelf.entry) × (result.place ≡ shown_of (found term shelf.now)) }
 {
     let place = lookup::find::find_list(shelf, term);
     ListView { shelf, place }
@@ -24,7 +24,7 @@ pub fn view<'a>(shelf: &'a [u8], term: u32) -> ListView<'a>
 
 // The numbers of the summary of block `j`: the view's refusal, or 12 where the block is not there.
 pub fn summary<'a>(v: ListView<'a>, j: usize) -> SummaryShown
-    ensures { result ≡ summaryShown v.entry.shelf.now v.entry.place j }
+    ensures { result ≡ summary_shown v.entry.shelf.now v.entry.place j }
 {
     let place = v.place;
     lookup::find::summary_shown(v.shelf, place, j)
@@ -50,7 +50,7 @@ fn part<'a>(s: &'a [u8], shown: BodyShown) -> &'a [u8]
 
 // The body of block `j`: the view's refusal, or 12 where the block is not there.
 pub fn body<'a>(v: ListView<'a>, j: usize) -> BodyPart<'a>
-    ensures { (result.shown ≡ bodyShown v.entry.shelf.now v.entry.place j)
+    ensures { (result.shown ≡ body_shown v.entry.shelf.now v.entry.place j)
         × IsPart v.entry.shelf result.shown result.bytes }
 {
     let place = v.place;

@@ -11,7 +11,7 @@ use Rattle.model.specs.Runs.{Stored, Holds}
 use Rattle.model.proofs.Lists.{and-true, and-false}
 use Rattle.model.proofs.Storing.{stored-holds}
 use Rattle.lines.specs.Text.{codes}
-use Rattle.lines.specs.Book.{maxOutput}
+use Rattle.lines.specs.Book.{max_output}
 use Rattle.lines.specs.Said.{unread, roomy, Begun}
 use Rattle.lines.specs.declared.said.Start.TheVariants.{Stop, Answer}
 
@@ -28,31 +28,31 @@ unfolding unread
 unread-size name = length-append name (codes ": standard input could not be read\n")
 
 module _ (name : List ℕ) (out err : ℕ) where
-  pub small-output : out < maxOutput → roomy name out err ≡ false
+  pub small-output : out < max_output → roomy name out err ≡ false
   unfolding roomy
-  small-output h = rw (lt-leb maxOutput out h)
+  small-output h = rw (lt-leb max_output out h)
 
   pub small-error : err < length name + 35 → roomy name out err ≡ false
   unfolding roomy
-  small-error h = rw (unread-size name, lt-leb (length name + 35) err h) (and-false (leb maxOutput out))
+  small-error h = rw (unread-size name, lt-leb (length name + 35) err h) (and-false (leb max_output out))
 
-  pub room-enough : maxOutput ≤ out → length name + 35 ≤ err → roomy name out err ≡ true
+  pub room_enough : max_output ≤ out → length name + 35 ≤ err → roomy name out err ≡ true
   unfolding roomy
-  room-enough h k = rw (unread-size name, le-leb maxOutput out h, le-leb (length name + 35) err k)
+  room_enough h k = rw (unread-size name, le-leb max_output out h, le-leb (length name + 35) err k)
 
-  pub roomy-output : roomy name out err ≡ true → maxOutput ≤ out
+  pub roomy-output : roomy name out err ≡ true → max_output ≤ out
   unfolding roomy
-  roomy-output e = leb-true maxOutput out (and-true (leb maxOutput out) (leb (length (unread name)) err) e).0
+  roomy-output e = leb-true max_output out (and-true (leb max_output out) (leb (length (unread name)) err) e).0
 
 module _ (name : List ℕ) (read : Bool) (room : ℕ) (err err' : List ℕ) where
-  pub begun-silent : roomy name room (length err) ≡ false → Begun name read room err err (Stop 0)
-  begun-silent e = record { start = rw e; line = rw e (holds-nothing err) }
+  pub begun_silent : roomy name room (length err) ≡ false → Begun name read room err err (Stop 0)
+  begun_silent e = record { start = rw e; line = rw e (holds-nothing err) }
 
-  pub begun-answer : roomy name room (length err) ≡ true → read ≡ true → Begun name read room err err Answer
-  begun-answer e f = record { start = rw (e, f); line = rw (e, f) (holds-nothing err) }
+  pub begun_answer : roomy name room (length err) ≡ true → read ≡ true → Begun name read room err err Answer
+  begun_answer e f = record { start = rw (e, f); line = rw (e, f) (holds-nothing err) }
 
-  pub begun-unread : (q : ℕ) → roomy name room (length err) ≡ true → read ≡ false → length name + 35 ≤ length err → Stored err err' 0 q (unread name) → Begun name read room err err' (Stop q)
-  begun-unread q e f h s =
+  pub begun_unread : (q : ℕ) → roomy name room (length err) ≡ true → read ≡ false → length name + 35 ≤ length err → Stored err err' 0 q (unread name) → Begun name read room err err' (Stop q)
+  begun_unread q e f h s =
       let o = stored-holds (omega (arith, unread-size name)) s in
       let z : q ≡ length (unread name) = o.count in
       record { start = rw (e, f, z); line = rw (e, f) (rw z at o) }

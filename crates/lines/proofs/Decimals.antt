@@ -8,7 +8,7 @@ use borrow.Author.Tests.{ltb-false, lt-ltb, le-ltb}
 use lib.Dec.{ltb}
 use lib.ListN.{length, drop, get_or, length-append, get_or-append}
 use Rattle.model.specs.Runs.{All}
-use Rattle.model.proofs.Lists.{split, rest-cons, rest-none}
+use Rattle.model.proofs.Lists.{split, rest_cons, rest-none}
 use Rattle.wire.specs.Number.{be}
 use Rattle.wire.proofs.Numbers.{be-one}
 use Rattle.lines.specs.Text.{codes, digits, decimal, numbers}
@@ -96,7 +96,7 @@ numbers-most (n ∷ ns) = omega (arith, length-append (codes " " ++ decimal n) (
 
 pub numbers_more : (ns : List ℕ) (i : ℕ) → i < length ns → numbers (drop i ns) ≡ (codes " " ++ decimal (get_or ns i 0)) ++ numbers (drop (i + 1) ns)
 unfolding numbers
-numbers_more ns i h = rw (rest-cons ns i h)
+numbers_more ns i h = rw (rest_cons ns i h)
 
 pub numbers-none : (ns : List ℕ) (i : ℕ) → length ns ≤ i → numbers (drop i ns) ≡ []
 unfolding numbers
@@ -105,15 +105,15 @@ numbers-none ns i h = rw (rest-none ns i h)
 -- ---- a decimal number is read back as the number, and has no zero in front
 
 -- the number that some digits are, after the number v
-abbrev pub readFrom : ℕ → List ℕ → ℕ
-readFrom v [] = v
-readFrom v (c ∷ cs) = readFrom (10 * v + (c - 48)) cs
+abbrev pub read_from : ℕ → List ℕ → ℕ
+read_from v [] = v
+read_from v (c ∷ cs) = read_from (10 * v + (c - 48)) cs
 
-read-append : (v c : ℕ) (cs : List ℕ) → readFrom v (cs ++ (c ∷ [])) ≡ 10 * readFrom v cs + (c - 48)
+read-append : (v c : ℕ) (cs : List ℕ) → read_from v (cs ++ (c ∷ [])) ≡ 10 * read_from v cs + (c - 48)
 read-append v c [] = refl
 read-append v c (d ∷ cs) = read-append (10 * v + (d - 48)) c cs
 
-reads : (m n : ℕ) → n < 10 ^ m → readFrom 0 (digits m n) ≡ n
+reads : (m n : ℕ) → n < 10 ^ m → read_from 0 (digits m n) ≡ n
 unfolding digits
 reads zero n h = omega arith
 reads (suc m) n h =
@@ -121,9 +121,9 @@ reads (suc m) n h =
     (λ e. rw e (omega arith))
     (λ e. rw (e, read-append 0 (48 + n % 10) (digits m (n / 10))) (omega (arith, reads m (n / 10) (omega arith))))
 
-pub decimal-reads : (n : ℕ) → n < 10 ^ 20 → readFrom 0 (decimal n) ≡ n
+pub decimal_reads : (n : ℕ) → n < 10 ^ 20 → read_from 0 (decimal n) ≡ n
 unfolding decimal
-decimal-reads n h = reads 20 n h
+decimal_reads n h = reads 20 n h
 
 -- of a number that is not 0 the first digit is not 0
 leads : (m n : ℕ) → 0 < n → n < 10 ^ m → 48 < get_or (digits m n) 0 0
@@ -142,6 +142,6 @@ leads (suc m) n p h =
     front [] h = absurd (omega arith)
     front (c ∷ cs) h = omega arith
 
-pub decimal-leads : (n : ℕ) → 0 < n → n < 10 ^ 20 → 48 < get_or (decimal n) 0 0
+pub decimal_leads : (n : ℕ) → 0 < n → n < 10 ^ 20 → 48 < get_or (decimal n) 0 0
 unfolding decimal
-decimal-leads n p h = leads 20 n p h
+decimal_leads n p h = leads 20 n p h

@@ -3,8 +3,8 @@ use mathlib.Core.Path.{◌≡◌, refl}
 use Prim.Native.Nat.{ℕ}
 use mathlib.Core.List.{List, [], ◌∷◌, ◌++◌}
 use Rattle.wire.specs.Number.{num}
-use Rattle.wire.specs.Field.{whole, fieldLen}
-use Rattle.lines.specs.Split.{ofQuery, sizeIn, querySize}
+use Rattle.wire.specs.Field.{whole, field_len}
+use Rattle.lines.specs.Split.{of_query, size_in, query_size}
 use Rattle.model.specs.Outcome.{refused}
 use Rattle.lines.specs.Text.{codes, digits, decimal, numbers, line, text}
 
@@ -18,16 +18,16 @@ term-field term weight = 0x21 ∷ 0 ∷ 5 ∷ 0 ∷ 0 ∷ 0 ∷ term ∷ weight 
 pub query : List ℕ
 query = k-field ++ (term-field 7 1 ++ term-field 9 2)
 
-pub m1-split : querySize (query ++ (0x01 ∷ 0 ∷ 5 ∷ 0 ∷ 0 ∷ 0 ∷ 7 ∷ 2 ∷ [])) ≡ 20
-unfolding querySize sizeIn ofQuery whole fieldLen num query k-field term-field
-m1-split = refl
+pub m1_split : query_size (query ++ (0x01 ∷ 0 ∷ 5 ∷ 0 ∷ 0 ∷ 0 ∷ 7 ∷ 2 ∷ [])) ≡ 20
+unfolding query_size size_in of_query whole field_len num query k-field term-field
+m1_split = refl
 
 -- a field that is cut short begins the shelf, and one of a wrong length is the query's
-pub cut-split : (querySize (k-field ++ (0x21 ∷ 0 ∷ 5 ∷ 0 ∷ [])) ≡ 4) × (querySize (k-field ++ (0x21 ∷ 0 ∷ 1 ∷ 7 ∷ [])) ≡ 8)
-unfolding querySize sizeIn ofQuery whole fieldLen num k-field
+pub cut-split : (query_size (k-field ++ (0x21 ∷ 0 ∷ 5 ∷ 0 ∷ [])) ≡ 4) × (query_size (k-field ++ (0x21 ∷ 0 ∷ 1 ∷ 7 ∷ [])) ≡ 8)
+unfolding query_size size_in of_query whole field_len num k-field
 cut-split = (refl, refl)
 
 -- M6 stops with 8 at 40
-pub m6-printed : text (refused 8 40) ≡ codes "R 8 40\n"
+pub m6_printed : text (refused 8 40) ≡ codes "R 8 40\n"
 unfolding digits decimal numbers line
-m6-printed = refl
+m6_printed = refl

@@ -5,7 +5,7 @@ use mathlib.Core.Path.{◌≡◌, refl}
 use mathlib.Core.List.{List, [], ◌∷◌, ◌++◌}
 use borrow.Author.Tests.{eq-eqb, ne_eqb}
 use lib.ListN.{length, length-append}
-use Rattle.lines.specs.Text.{codes, numbers, line, intervalLine}
+use Rattle.lines.specs.Text.{codes, numbers, line, interval_line}
 
 module _ (letter ns end : List ℕ) where
   pub line-parts : letter ++ (numbers ns ++ end) ≡ line letter ns end
@@ -19,8 +19,8 @@ module _ (letter ns end : List ℕ) where
 -- ---- an interval's word
 
 module _ (first last ceiling mark : ℕ) where
-  pub opened-line : mark ≡ 1 → line (codes "I") (first ∷ last ∷ ceiling ∷ []) (codes " opened\n") ≡ intervalLine first last ceiling mark
+  pub opened-line : mark ≡ 1 → line (codes "I") (first ∷ last ∷ ceiling ∷ []) (codes " opened\n") ≡ interval_line first last ceiling mark
   opened-line e = rw (eq-eqb mark 1 e)
 
-  pub skipped-line : (mark ≡ 1 → ⊥) → line (codes "I") (first ∷ last ∷ ceiling ∷ []) (codes " skipped\n") ≡ intervalLine first last ceiling mark
+  pub skipped-line : (mark ≡ 1 → ⊥) → line (codes "I") (first ∷ last ∷ ceiling ∷ []) (codes " skipped\n") ≡ interval_line first last ceiling mark
   skipped-line e = rw (ne_eqb mark 1 e)

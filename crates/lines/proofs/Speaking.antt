@@ -7,7 +7,7 @@ use mathlib.Core.List.{List, []}
 use lib.ListN.{length, drop, length-append}
 use Rattle.model.specs.Runs.{Holds}
 use Rattle.model.proofs.Lists.{split}
-use Rattle.lines.specs.Book.{maxOutput}
+use Rattle.lines.specs.Book.{max_output}
 use Rattle.lines.specs.Said.{unread, roomy, Words, words_of, Says, Speaks, start_of, Begun}
 use Rattle.lines.specs.declared.said.Said.{Said}
 use Rattle.lines.specs.declared.said.Start.{Start}
@@ -31,14 +31,14 @@ module _ (name answer out err err' : List ℕ) where
   answers out' true true q e h o = record { output = o; error = h }
 
   module _ (read : Bool) (r : Start) (b : Begun name read (length out) err err' r) where
-    pub speaks-stop : (n : ℕ) → r ≡ Stop n → Speaks name read answer out err out err' (saying 0 n)
-    speaks-stop n e = stops (roomy name (length out) (length err)) read n (rw e at b.start) b.line
+    pub speaks_stop : (n : ℕ) → r ≡ Stop n → Speaks name read answer out err out err' (saying 0 n)
+    speaks_stop n e = stops (roomy name (length out) (length err)) read n (rw e at b.start) b.line
 
-    pub speaks-answer : (out' : List ℕ) (q : ℕ) → r ≡ Answer → Holds out answer out' q → Speaks name read answer out err out' err' (saying q 0)
-    speaks-answer out' q e o = answers out' (roomy name (length out) (length err)) read q (rw e at b.start) b.line o
+    pub speaks_answer : (out' : List ℕ) (q : ℕ) → r ≡ Answer → Holds out answer out' q → Speaks name read answer out err out' err' (saying q 0)
+    speaks_answer out' q e o = answers out' (roomy name (length out) (length err)) read q (rw e at b.start) b.line o
 
     -- there is room for the answer
-    pub answer-room : r ≡ Answer → maxOutput ≤ length out
+    pub answer-room : r ≡ Answer → max_output ≤ length out
     answer-room e =
         split (roomy name (length out) (length err)) (λ f. roomy-output name (length out) (length err) f) (λ f.
         let g : Answer ≡ Stop 0 = rw (e, f) at b.start in

@@ -2,7 +2,7 @@
 use Rattle.std.specs.Prelude.{ℕ, ◌≡◌, Bool, true, false, ◌&&◌, List, [], ◌++◌, leb, length}
 use Rattle.model.specs.Runs.{Holds}
 use Rattle.lines.specs.Text.{codes}
-use Rattle.lines.specs.Book.{maxOutput}
+use Rattle.lines.specs.Book.{max_output}
 use Rattle.lines.specs.declared.said.Said.{Said}
 use Rattle.lines.specs.declared.said.Start.{Start}
 use Rattle.lines.specs.declared.said.Start.TheVariants.{Stop, Answer}
@@ -13,7 +13,7 @@ unread name = name ++ codes ": standard input could not be read\n"
 
 -- the lent runs have room for every output, and for that line
 unfoldable pub roomy : (name : List ℕ) (out err : ℕ) → Bool
-roomy name out err = leb maxOutput out && leb (length (unread name)) err
+roomy name out err = leb max_output out && leb (length (unread name)) err
 
 -- what goes to standard output, and what to standard error
 pub record Words : Type 0 where

@@ -3,7 +3,7 @@
 use Rattle.std.specs.Prelude.{ℕ, zero, suc, ◌+◌, ◌-◌, ◌/◌, ◌%◌, List, [], ◌∷◌, ◌++◌, cond, ltb, eqb}
 use Prim.Native.Char.{code}
 use Prim.Native.String.{String, [] as none, ◌∷◌ as ◌and◌}
-use Rattle.model.specs.Limits.{maxDocid}
+use Rattle.model.specs.Limits.{max_docid}
 use Rattle.model.specs.Outcome.{Outcome, refused, done}
 use Rattle.rank.specs.Rank.{Hit}
 
@@ -31,21 +31,21 @@ unfoldable pub line : (letter : List ℕ) (ns : List ℕ) (end : List ℕ) → L
 line letter ns end = letter ++ (numbers ns ++ end)
 
 -- "H rank from 1, docid, score"
-abbrev pub hitLine : (rank : ℕ) → Hit → List ℕ
-hitLine rank h = line (codes "H") (rank ∷ h.doc ∷ h.score ∷ []) (codes "\n")
+abbrev pub hit_line : (rank : ℕ) → Hit → List ℕ
+hit_line rank h = line (codes "H") (rank ∷ h.doc ∷ h.score ∷ []) (codes "\n")
 
 -- the hits from this rank on
-unfoldable pub hitLines : (rank : ℕ) → List Hit → List ℕ
-hitLines rank [] = []
-hitLines rank (h ∷ hs) = hitLine rank h ++ hitLines (rank + 1) hs
+unfoldable pub hit_lines : (rank : ℕ) → List Hit → List ℕ
+hit_lines rank [] = []
+hit_lines rank (h ∷ hs) = hit_line rank h ++ hit_lines (rank + 1) hs
 
 -- "mark (0 skipped, 1 opened)"; a search that stops, with the marks 2 and 3, is a refusal and prints no interval
 abbrev pub word : ℕ → String
 word mark = cond (eqb mark 1) " opened\n" " skipped\n"
 
 -- "I first, last, ceiling, mark as a word"
-abbrev pub intervalLine : (first last ceiling mark : ℕ) → List ℕ
-intervalLine first last ceiling mark = line (codes "I") (first ∷ last ∷ ceiling ∷ []) (codes (word mark))
+abbrev pub interval_line : (first last ceiling mark : ℕ) → List ℕ
+interval_line first last ceiling mark = line (codes "I") (first ∷ last ∷ ceiling ∷ []) (codes (word mark))
 
 -- the last docid of an interval, by the first docids of those past it: "The stretches between cuts partition 1 to 16,777,215"
 abbrev pub last_of : (lim : ℕ) → List ℕ → ℕ
@@ -53,19 +53,19 @@ last_of lim [] = lim
 last_of lim (next ∷ firsts) = next - 1
 
 -- "The book has one row per interval in three lent runs: first docid, ceiling, mark"
-unfoldable pub intervalLines : (lim : ℕ) (firsts ceilings marks : List ℕ) → List ℕ
-intervalLines lim (f ∷ fs) (c ∷ cs) (m ∷ ms) = intervalLine f (last_of lim fs) c m ++ intervalLines lim fs cs ms
-intervalLines lim (f ∷ fs) (c ∷ cs) [] = []
-intervalLines lim (f ∷ fs) [] ms = []
-intervalLines lim [] cs ms = []
+unfoldable pub interval_lines : (lim : ℕ) (firsts ceilings marks : List ℕ) → List ℕ
+interval_lines lim (f ∷ fs) (c ∷ cs) (m ∷ ms) = interval_line f (last_of lim fs) c m ++ interval_lines lim fs cs ms
+interval_lines lim (f ∷ fs) (c ∷ cs) [] = []
+interval_lines lim (f ∷ fs) [] ms = []
+interval_lines lim [] cs ms = []
 
 -- "B blocks opened, blocks in all"
 abbrev pub block_line : (opened all : ℕ) → List ℕ
 block_line opened all = line (codes "B") (opened ∷ all ∷ []) (codes "\n")
 
 -- "A refusal prints only `R number offset`."
-abbrev pub refusalLine : (number offset : ℕ) → List ℕ
-refusalLine number offset = line (codes "R") (number ∷ offset ∷ []) (codes "\n")
+abbrev pub refusal_line : (number offset : ℕ) → List ℕ
+refusal_line number offset = line (codes "R") (number ∷ offset ∷ []) (codes "\n")
 
 -- what a search that is done shows: its hits, its book, the blocks opened and the blocks in all
 pub record Shown : Type 0 where
@@ -81,5 +81,5 @@ shown hs fs cs ms opened all = record { hits = hs; firsts = fs; ceilings = cs; m
 
 -- the whole output
 abbrev pub text : Outcome Shown → List ℕ
-text (refused number offset) = refusalLine number offset
-text (done x) = hitLines 1 x.hits ++ (intervalLines maxDocid x.firsts x.ceilings x.marks ++ block_line x.opened x.all)
+text (refused number offset) = refusal_line number offset
+text (done x) = hit_lines 1 x.hits ++ (interval_lines max_docid x.firsts x.ceilings x.marks ++ block_line x.opened x.all)

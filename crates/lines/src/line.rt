@@ -2,7 +2,7 @@
 ghost use Rattle.std.specs.Prelude.{◌≡◌, [], ◌∷◌, ◌+◌, ◌≤◌, length};
 ghost use Rattle.model.specs.Runs.{Stored};
 ghost use Rattle.model.specs.Post.{post};
-ghost use Rattle.lines.specs.Text.{line, hitLine, intervalLine, block_line, refusalLine};
+ghost use Rattle.lines.specs.Text.{line, hit_line, interval_line, block_line, refusal_line};
 
 // A line of a letter, its numbers and its end.
 fn put_line(out: &mut [u8], at: usize, letter: &[u8], ns: &[u64], end: &[u8]) -> usize
@@ -16,8 +16,8 @@ fn put_line(out: &mut [u8], at: usize, letter: &[u8], ns: &[u64], end: &[u8]) ->
 
 // `H rank docid score`
 pub(crate) fn put_hit(out: &mut [u8], at: usize, rank: usize, docid: u32, score: u32) -> usize
-    requires { at + length (hitLine rank (post docid score)) ≤ length out.old }
-    ensures { Stored out.old out.new at result (hitLine rank (post docid score)) }
+    requires { at + length (hit_line rank (post docid score)) ≤ length out.old }
+    ensures { Stored out.old out.new at result (hit_line rank (post docid score)) }
 {
     let ns = [rank as u64, docid as u64, score as u64];
     put_line(out, at, b"H", &ns, b"\n")
@@ -32,8 +32,8 @@ pub(crate) fn put_interval(
     ceiling: u32,
     mark: u8,
 ) -> usize
-    requires { at + length (intervalLine first last ceiling mark) ≤ length out.old }
-    ensures { Stored out.old out.new at result (intervalLine first last ceiling mark) }
+    requires { at + length (interval_line first last ceiling mark) ≤ length out.old }
+    ensures { Stored out.old out.new at result (interval_line first last ceiling mark) }
 {
     let ns = [first as u64, last as u64, ceiling as u64];
     if mark == 1 {
@@ -53,8 +53,8 @@ pub(crate) fn put_blocks(out: &mut [u8], at: usize, opened: usize, all: usize) -
 
 // `R number offset`
 pub fn put_refusal(out: &mut [u8], at: usize, number: u8, offset: usize) -> usize
-    requires { at + length (refusalLine number offset) ≤ length out.old }
-    ensures { Stored out.old out.new at result (refusalLine number offset) }
+    requires { at + length (refusal_line number offset) ≤ length out.old }
+    ensures { Stored out.old out.new at result (refusal_line number offset) }
 {
     let ns = [number as u64, offset as u64];
     put_line(out, at, b"R", &ns, b"\n")

@@ -1,11 +1,11 @@
 // The lines of a search that is done: one for each hit, one for each interval, and the blocks; stored at a place of a lent run that has room for
 // them. Each gives the place past its lines.
 ghost use Rattle.std.specs.Prelude.{◌≡◌, ◌+◌, ◌≤◌, ◌<◌, length, take, drop};
-ghost use Rattle.model.specs.Limits.{maxDocid};
+ghost use Rattle.model.specs.Limits.{max_docid};
 ghost use Rattle.model.specs.Outcome.{done};
 ghost use Rattle.model.specs.Post.{postings};
 ghost use Rattle.model.specs.Runs.{Stored, Asc};
-ghost use Rattle.lines.specs.Text.{hitLines, intervalLines, last_of, shown, text};
+ghost use Rattle.lines.specs.Text.{hit_lines, interval_lines, last_of, shown, text};
 ghost use Rattle.lines.specs.Book.{Book};
 
 // The keeper's first n rows, ranked from 1.
@@ -16,8 +16,8 @@ pub(crate) fn put_hits<'a>(
     scores: &'a [u32; 100],
     n: usize,
 ) -> usize
-    requires { (length docids.now ≡ 100) × (length scores.now ≡ 100) × (n ≤ 100) × (at + length (hitLines 1 (take n (postings docids.now scores.now))) ≤ length out.old) }
-    ensures { Stored out.old out.new at result (hitLines 1 (take n (postings docids.now scores.now))) }
+    requires { (length docids.now ≡ 100) × (length scores.now ≡ 100) × (n ≤ 100) × (at + length (hit_lines 1 (take n (postings docids.now scores.now))) ≤ length out.old) }
+    ensures { Stored out.old out.new at result (hit_lines 1 (take n (postings docids.now scores.now))) }
 {
     let mut j = at;
     let mut i = 0;
@@ -31,7 +31,7 @@ pub(crate) fn put_hits<'a>(
 // The last docid of the interval with index i: one less than the next first, or the limit.
 fn last_docid(firsts: &[u32], i: usize) -> u32
     requires { (i < length firsts.now) × Asc 0 firsts.now }
-    ensures { result ≡ last_of maxDocid (drop (i + 1) firsts.now) }
+    ensures { result ≡ last_of max_docid (drop (i + 1) firsts.now) }
 {
     let next = i + 1;
     if next < firsts.len() {
@@ -48,8 +48,8 @@ pub(crate) fn put_intervals<'a>(
     ceilings: &'a [u32],
     marks: &'a [u8],
 ) -> usize
-    requires { Book firsts.now ceilings.now marks.now × (at + length (intervalLines maxDocid firsts.now ceilings.now marks.now) ≤ length out.old) }
-    ensures { Stored out.old out.new at result (intervalLines maxDocid firsts.now ceilings.now marks.now) }
+    requires { Book firsts.now ceilings.now marks.now × (at + length (interval_lines max_docid firsts.now ceilings.now marks.now) ≤ length out.old) }
+    ensures { Stored out.old out.new at result (interval_lines max_docid firsts.now ceilings.now marks.now) }
 {
     let mut j = at;
     let mut i = 0;

@@ -1,6 +1,6 @@
 // Where the query ends in the program's input and the shelf begins.
 ghost use Rattle.std.specs.Prelude.{◌≡◌};
-ghost use Rattle.lines.specs.Split.{queryFieldAt, querySize};
+ghost use Rattle.lines.specs.Split.{query_field_at, query_size};
 
 use wire::field::FieldRead;
 
@@ -11,7 +11,7 @@ const TAG_TERM: u8 = 33;
 
 // A whole field of the query at a place.
 fn query_field(s: &[u8], at: usize) -> FieldRead
-    ensures { result ≡ queryFieldAt s.now at }
+    ensures { result ≡ query_field_at s.now at }
 {
     match wire::field::field(s, at, TAG_K) {
         FieldRead::Whole(n) => FieldRead::Whole(n),
@@ -21,7 +21,7 @@ fn query_field(s: &[u8], at: usize) -> FieldRead
 
 // How many bytes of the input are the query; the rest is the shelf.
 pub fn split(input: &[u8]) -> usize
-    ensures { result ≡ querySize input.now }
+    ensures { result ≡ query_size input.now }
 {
     let mut at = 0;
     loop {

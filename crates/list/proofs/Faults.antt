@@ -7,42 +7,42 @@ use mathlib.Core.List.{List, [], ◌∷◌, ◌++◌}
 use borrow.Author.Tests.{lt-ltb, le-ltb, ltb-true, le-leb, lt-leb, leb-true, eq-eqb, ne_eqb}
 use lib.Dec.{leb, ltb}
 use lib.ListN.{length, get_or, drop}
-use Rattle.model.specs.Limits.{maxDocid, maxScore, maxPostings}
+use Rattle.model.specs.Limits.{max_docid, max_score, max_postings}
 use Rattle.model.specs.Outcome.{Outcome, refused, done}
-use Rattle.model.specs.Post.{Post, post, postings, Rising, Scored, lastDoc}
+use Rattle.model.specs.Post.{Post, post, postings, Rising, Scored, last_doc}
 use Rattle.model.specs.Runs.{Stored}
 use Rattle.model.proofs.Lists.{split, and-true, and-false}
 use Rattle.model.proofs.Posts.{from, from_cons, from_end, count_of, rising-last}
 use Rattle.model.proofs.Storing.{stored-holds}
 use Rattle.list.specs.Answer.{Gives}
-use Rattle.list.specs.Write.{listBytes, mayFollow, faultAt, writeList, Paired}
+use Rattle.list.specs.Write.{list_bytes, may_follow, fault_at, write_list, Paired}
 use Rattle.list.specs.declared.answer.Answer.TheVariants.{Done, Refused}
 
 -- ---- the posting at index i, after docid p
 
 module _ (p i : ℕ) (ds ss : List ℕ) (e : length ds ≡ length ss) (h : i < length ds) where
-  fault-here : mayFollow p (post (get_or ds i 0) (get_or ss i 0)) ≡ false → faultAt p (from i ds ss) ≡ 0
-  unfolding faultAt
-  fault-here t = ap (faultAt p) (from_cons i ds ss e h) ∙ rw t
+  fault-here : may_follow p (post (get_or ds i 0) (get_or ss i 0)) ≡ false → fault_at p (from i ds ss) ≡ 0
+  unfolding fault_at
+  fault-here t = ap (fault_at p) (from_cons i ds ss e h) ∙ rw t
 
-  pub fault-low : get_or ds i 0 ≤ p → faultAt p (from i ds ss) ≡ 0
-  fault-low l = fault-here (rw (le-ltb p (get_or ds i 0) l))
+  pub fault_low : get_or ds i 0 ≤ p → fault_at p (from i ds ss) ≡ 0
+  fault_low l = fault-here (rw (le-ltb p (get_or ds i 0) l))
 
-  pub fault-high : maxDocid < get_or ds i 0 → faultAt p (from i ds ss) ≡ 0
-  fault-high l = fault-here (rw (lt-leb (get_or ds i 0) 16777215 l) (and-false (ltb p (get_or ds i 0))))
+  pub fault_high : max_docid < get_or ds i 0 → fault_at p (from i ds ss) ≡ 0
+  fault_high l = fault-here (rw (lt-leb (get_or ds i 0) 16777215 l) (and-false (ltb p (get_or ds i 0))))
 
-  pub fault-score : get_or ss i 0 ≡ 0 → faultAt p (from i ds ss) ≡ 0
+  pub fault-score : get_or ss i 0 ≡ 0 → fault_at p (from i ds ss) ≡ 0
   fault-score z = fault-here (rw (le-ltb 0 (get_or ss i 0) (omega arith), and-false (leb (get_or ds i 0) 16777215)) (and-false (ltb p (get_or ds i 0))))
 
-  pub fault-on : p < get_or ds i 0 → get_or ds i 0 ≤ maxDocid → 0 < get_or ss i 0 → get_or ss i 0 ≤ maxScore →
-      faultAt p (from i ds ss) ≡ suc (faultAt (get_or ds i 0) (from (i + 1) ds ss))
-  unfolding faultAt
+  pub fault-on : p < get_or ds i 0 → get_or ds i 0 ≤ max_docid → 0 < get_or ss i 0 → get_or ss i 0 ≤ max_score →
+      fault_at p (from i ds ss) ≡ suc (fault_at (get_or ds i 0) (from (i + 1) ds ss))
+  unfolding fault_at
   fault-on a b c d =
-      ap (faultAt p) (from_cons i ds ss e h)
+      ap (fault_at p) (from_cons i ds ss e h)
       ∙ rw (lt-ltb p (get_or ds i 0) a, le-leb (get_or ds i 0) 16777215 b, lt-ltb 0 (get_or ss i 0) c, le-leb (get_or ss i 0) 65535 d)
 
-pub fault-end : (p i : ℕ) (ds ss : List ℕ) → length ds ≤ i → faultAt p (from i ds ss) ≡ 0
-unfolding faultAt
+pub fault-end : (p i : ℕ) (ds ss : List ℕ) → length ds ≤ i → fault_at p (from i ds ss) ≡ 0
+unfolding fault_at
 fault-end p i ds ss h = rw (from_end i ds ss h)
 
 -- ---- postings of which none is at fault, and only those, may be written
@@ -50,13 +50,13 @@ fault-end p i ds ss h = rw (from_end i ds ss h)
 pub record Faultless (p : ℕ) (ps : List Post) : Type 0 where
   pub rise : Rising p ps
   pub scores : Scored ps
-  pub last : lastDoc p ps ≤ maxDocid
+  pub last : last_doc p ps ≤ max_docid
 
-pub faultless : (p : ℕ) (ps : List Post) → p ≤ maxDocid → length ps ≤ faultAt p ps → Faultless p ps
-unfolding faultAt
+pub faultless : (p : ℕ) (ps : List Post) → p ≤ max_docid → length ps ≤ fault_at p ps → Faultless p ps
+unfolding fault_at
 faultless p [] l h = record { rise = tt; scores = tt; last = l }
 faultless p (x ∷ ps) l h =
-    split (mayFollow p x)
+    split (may_follow p x)
     (λ t.
     let a = and-true (ltb p x.doc) _ t in
     let b = and-true (leb x.doc 16777215) _ a.1 in
@@ -65,16 +65,16 @@ faultless p (x ∷ ps) l h =
     record { rise = (ltb-true _ _ a.0, r.rise); scores = ((ltb-true _ _ c.0, leb-true _ _ c.1), r.scores); last = r.last })
     (λ t. let n : suc (length ps) ≤ 0 = rw t at h in absurd (omega arith))
 
-pub no-fault : (p : ℕ) (ps : List Post) → Faultless p ps → faultAt p ps ≡ length ps
-unfolding faultAt
-no-fault p [] f = refl
-no-fault p (x ∷ ps) f =
+pub no_fault : (p : ℕ) (ps : List Post) → Faultless p ps → fault_at p ps ≡ length ps
+unfolding fault_at
+no_fault p [] f = refl
+no_fault p (x ∷ ps) f =
     let low : p < x.doc = f.rise.0 in
     let high : x.doc ≤ 16777215 = omega (arith, rising-last x.doc ps f.rise.1, f.last) in
     rw (lt-ltb p x.doc low, le-leb x.doc 16777215 high, lt-ltb 0 x.score f.scores.0.0, le-leb x.score 65535 f.scores.0.1)
-    (ap suc (no-fault x.doc ps (record { rise = f.rise.1; scores = f.scores.1; last = f.last })))
+    (ap suc (no_fault x.doc ps (record { rise = f.rise.1; scores = f.scores.1; last = f.last })))
 
-pub may_write : (ds ss : List ℕ) → length ds ≡ length ss → 0 < length ds → length ds ≤ maxPostings → length ds ≤ faultAt 0 (postings ds ss) → Paired ds ss
+pub may_write : (ds ss : List ℕ) → length ds ≡ length ss → 0 < length ds → length ds ≤ max_postings → length ds ≤ fault_at 0 (postings ds ss) → Paired ds ss
 may_write ds ss e some few h =
     let n = count_of ds ss e in
     let f = faultless 0 (postings ds ss) (omega arith) (omega arith) in
@@ -83,52 +83,52 @@ may_write ds ss e some few h =
 -- ---- the answer, case by case
 
 module _ (strip : Bool) (t : ℕ) (ds ss : List ℕ) (room : ℕ) where
-  pub write-many : maxPostings < max (length ds) (length ss) → writeList strip t ds ss room ≡ refused 11 0
-  unfolding writeList
-  write-many h = rw (lt-ltb 6400 (max (length ds) (length ss)) h)
+  pub write_many : max_postings < max (length ds) (length ss) → write_list strip t ds ss room ≡ refused 11 0
+  unfolding write_list
+  write_many h = rw (lt-ltb 6400 (max (length ds) (length ss)) h)
 
-  pub write-uneven : (k : ℕ) → max (length ds) (length ss) ≤ maxPostings → (length ds ≡ length ss → ⊥) → k ≡ min (length ds) (length ss) →
-      writeList strip t ds ss room ≡ refused 10 k
-  unfolding writeList
-  write-uneven k h d e = rw (le-ltb 6400 (max (length ds) (length ss)) h, ne_eqb (length ds) (length ss) d, e)
+  pub write_uneven : (k : ℕ) → max (length ds) (length ss) ≤ max_postings → (length ds ≡ length ss → ⊥) → k ≡ min (length ds) (length ss) →
+      write_list strip t ds ss room ≡ refused 10 k
+  unfolding write_list
+  write_uneven k h d e = rw (le-ltb 6400 (max (length ds) (length ss)) h, ne_eqb (length ds) (length ss) d, e)
 
-  module _ (h : max (length ds) (length ss) ≤ maxPostings) (e : length ds ≡ length ss) where
-    pub write-none : length ds ≡ 0 → writeList strip t ds ss room ≡ refused 10 0
-    unfolding writeList
+  module _ (h : max (length ds) (length ss) ≤ max_postings) (e : length ds ≡ length ss) where
+    pub write-none : length ds ≡ 0 → write_list strip t ds ss room ≡ refused 10 0
+    unfolding write_list
     write-none z = rw (le-ltb 6400 (max (length ds) (length ss)) h, eq-eqb (length ds) (length ss) e, eq-eqb (length ds) 0 z)
 
     module _ (z : length ds ≡ 0 → ⊥) where
-      pub write-fault : (k : ℕ) → k ≡ faultAt 0 (postings ds ss) → k < length ds → writeList strip t ds ss room ≡ refused 10 k
-      unfolding writeList
+      pub write-fault : (k : ℕ) → k ≡ fault_at 0 (postings ds ss) → k < length ds → write_list strip t ds ss room ≡ refused 10 k
+      unfolding write_list
       write-fault k q l =
           rw (
             le-ltb 6400 (max (length ds) (length ss)) h,
             eq-eqb (length ds) (length ss) e,
             ne_eqb (length ds) 0 z,
-            lt-ltb (faultAt 0 (postings ds ss)) (length ds) (omega arith),
+            lt-ltb (fault_at 0 (postings ds ss)) (length ds) (omega arith),
             q,
           )
 
-      pub write-short : length ds ≤ faultAt 0 (postings ds ss) → room < length (listBytes strip t (postings ds ss)) → writeList strip t ds ss room ≡ refused 9 0
-      unfolding writeList
+      pub write-short : length ds ≤ fault_at 0 (postings ds ss) → room < length (list_bytes strip t (postings ds ss)) → write_list strip t ds ss room ≡ refused 9 0
+      unfolding write_list
       write-short f l =
           rw (
             le-ltb 6400 (max (length ds) (length ss)) h,
             eq-eqb (length ds) (length ss) e,
             ne_eqb (length ds) 0 z,
-            le-ltb (faultAt 0 (postings ds ss)) (length ds) f,
-            lt-ltb room (length (listBytes strip t (postings ds ss))) l,
+            le-ltb (fault_at 0 (postings ds ss)) (length ds) f,
+            lt-ltb room (length (list_bytes strip t (postings ds ss))) l,
           )
 
-      pub write_done : length ds ≤ faultAt 0 (postings ds ss) → length (listBytes strip t (postings ds ss)) ≤ room → writeList strip t ds ss room ≡ done (listBytes strip t (postings ds ss))
-      unfolding writeList
+      pub write_done : length ds ≤ fault_at 0 (postings ds ss) → length (list_bytes strip t (postings ds ss)) ≤ room → write_list strip t ds ss room ≡ done (list_bytes strip t (postings ds ss))
+      unfolding write_list
       write_done f l =
           rw (
             le-ltb 6400 (max (length ds) (length ss)) h,
             eq-eqb (length ds) (length ss) e,
             ne_eqb (length ds) 0 z,
-            le-ltb (faultAt 0 (postings ds ss)) (length ds) f,
-            le-ltb room (length (listBytes strip t (postings ds ss))) l,
+            le-ltb (fault_at 0 (postings ds ss)) (length ds) f,
+            le-ltb room (length (list_bytes strip t (postings ds ss))) l,
           )
 
 -- ---- what is answered, and what the buffer holds

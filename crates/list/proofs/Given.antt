@@ -10,23 +10,23 @@ use Rattle.model.specs.Post.{Post, docs, scores}
 use Rattle.model.specs.Runs.{Stored}
 use Rattle.model.proofs.Lists.{map-length}
 use Rattle.model.proofs.Storing.{stored-holds}
-use Rattle.shelf.specs.Walk.{Block, Listing, blocksAt, postsOf}
-use Rattle.shelf.specs.Check.{badBody}
+use Rattle.shelf.specs.Walk.{Block, Listing, blocks_at, posts_of}
+use Rattle.shelf.specs.Check.{bad_body}
 use Rattle.shelf.specs.Answers.{Ready}
-use Rattle.lookup.specs.Find.{found, shownOf}
+use Rattle.lookup.specs.Find.{found, shown_of}
 use Rattle.lookup.specs.declared.find.Shown.TheVariants as shown
-use Rattle.lookup.proofs.Stands.{found-stands}
+use Rattle.lookup.proofs.Stands.{found_stands}
 use Rattle.shelf.specs.declared.walk.Place.{Place}
 use Rattle.shelf.specs.declared.check.BadRead.TheVariants.{BadAt, NoBad}
 use Rattle.list.specs.Answer.{Gives}
-use Rattle.list.specs.Read.{count_of, readBlocks, readList, Reads}
+use Rattle.list.specs.Read.{count_of, read_blocks, read_list, Reads}
 use Rattle.list.specs.Fill.{Fillable, Filled}
 use Rattle.list.specs.declared.answer.Answer.TheVariants.{Done, Refused}
 use Rattle.list.proofs.Pours.{right-count}
 
 -- a refusal leaves both runs as they were
-pub reads-refused : (o : Outcome (List Post)) (n at : ℕ) (ds ss : List ℕ) → o ≡ refused n at → Reads o ds ss ds ss (Refused n at)
-reads-refused o n at ds ss e = rw e record {
+pub reads_refused : (o : Outcome (List Post)) (n at : ℕ) (ds ss : List ℕ) → o ≡ refused n at → Reads o ds ss ds ss (Refused n at)
+reads_refused o n at ds ss e = rw e record {
   docids = record { answers = refl; holds = refl };
   scored = record { answers = refl; holds = refl };
 }
@@ -40,44 +40,44 @@ gives-stored v l m r h s =
 -- ---- a walked list's blocks
 
 module _ (bs : List Block) (d w : ℕ) where
-  pub read-bad : (o : ℕ) → badBody bs ≡ BadAt o → readBlocks bs d w ≡ refused 8 o
-  read-bad o e = rw e
+  pub read_bad : (o : ℕ) → bad_body bs ≡ BadAt o → read_blocks bs d w ≡ refused 8 o
+  read_bad o e = rw e
 
-  pub read_short : badBody bs ≡ NoBad → min d w < count_of bs → readBlocks bs d w ≡ refused 9 0
-  read_short e h = rw (e, lt-leb (length (postsOf bs)) (min d w) (omega (arith, right-count bs e)))
+  pub read_short : bad_body bs ≡ NoBad → min d w < count_of bs → read_blocks bs d w ≡ refused 9 0
+  read_short e h = rw (e, lt-leb (length (posts_of bs)) (min d w) (omega (arith, right-count bs e)))
 
-  pub read_whole : badBody bs ≡ NoBad → count_of bs ≤ d → count_of bs ≤ w → readBlocks bs d w ≡ done (postsOf bs)
-  read_whole e h k = rw (e, le-leb (length (postsOf bs)) (min d w) (omega (arith, right-count bs e)))
+  pub read_whole : bad_body bs ≡ NoBad → count_of bs ≤ d → count_of bs ≤ w → read_blocks bs d w ≡ done (posts_of bs)
+  read_whole e h k = rw (e, le-leb (length (posts_of bs)) (min d w) (omega (arith, right-count bs e)))
 
-pub reads-filled : (s : List ℕ) (p : Place) (ds ss ds' ss' : List ℕ) (r : ℕ) → Fillable s p (length ds) (length ss) → Filled s p ds ss ds' ss' r →
-    Reads (readBlocks (blocksAt s p.at p.count) (length ds) (length ss)) ds ss ds' ss' (Done r)
-reads-filled s p ds ss ds' ss' r h f =
-    let bs = blocksAt s p.at p.count in
+pub reads_filled : (s : List ℕ) (p : Place) (ds ss ds' ss' : List ℕ) (r : ℕ) → Fillable s p (length ds) (length ss) → Filled s p ds ss ds' ss' r →
+    Reads (read_blocks (blocks_at s p.at p.count) (length ds) (length ss)) ds ss ds' ss' (Done r)
+reads_filled s p ds ss ds' ss' r h f =
+    let bs = blocks_at s p.at p.count in
     let n = right-count bs h.right in
     rw (read_whole bs (length ds) (length ss) h.right h.roomy h.wide) record {
-      docids = gives-stored (docs (postsOf bs)) ds ds' r (omega (arith, map-length (λ (p : Post). p.doc) (postsOf bs), h.roomy)) f.docids;
-      scored = gives-stored (scores (postsOf bs)) ss ss' r (omega (arith, map-length (λ (p : Post). p.score) (postsOf bs), h.wide)) f.scored;
+      docids = gives-stored (docs (posts_of bs)) ds ds' r (omega (arith, map-length (λ (p : Post). p.doc) (posts_of bs), h.roomy)) f.docids;
+      scored = gives-stored (scores (posts_of bs)) ss ss' r (omega (arith, map-length (λ (p : Post). p.score) (posts_of bs), h.wide)) f.scored;
     }
 
 -- ---- the list of a term, as `find_list` found it
 
-shown-list : (o : Outcome Listing) (p : Place) → shownOf o ≡ shown.List p → (l : Listing) × (o ≡ done l) × (l.place ≡ p)
+shown-list : (o : Outcome Listing) (p : Place) → shown_of o ≡ shown.List p → (l : Listing) × (o ≡ done l) × (l.place ≡ p)
 shown-list (done l) p e = (l, refl, (cc))
 shown-list (refused n o) p e = let z : ◌≡◌ {A = ℕ} 0 1 = cc in absurd (omega arith)
 
-shown-refused : (o : Outcome Listing) (n at : ℕ) → shownOf o ≡ shown.Refused n at → o ≡ refused n at
+shown-refused : (o : Outcome Listing) (n at : ℕ) → shown_of o ≡ shown.Refused n at → o ≡ refused n at
 shown-refused (done l) n at e = let z : ◌≡◌ {A = ℕ} 0 1 = cc in absurd (omega arith)
 shown-refused (refused m o) n at e = cc
 
 module _ (t : ℕ) (s : List ℕ) where
-  pub read_found : (p : Place) → shownOf (found t s) ≡ shown.List p →
-      Ready s p × ((d w : ℕ) → readList t s d w ≡ readBlocks (blocksAt s p.at p.count) d w)
-  unfolding readList
+  pub read_found : (p : Place) → shown_of (found t s) ≡ shown.List p →
+      Ready s p × ((d w : ℕ) → read_list t s d w ≡ read_blocks (blocks_at s p.at p.count) d w)
+  unfolding read_list
   read_found p e =
       let f = shown-list (found t s) p e in
-      let h = found-stands t s f.0 f.1 in
+      let h = found_stands t s f.0 f.1 in
       (rw f.2 at h.ready, λ d w. rw (f.1, h.blocks, f.2))
 
-  pub read-refused : (n at d w : ℕ) → shownOf (found t s) ≡ shown.Refused n at → readList t s d w ≡ refused n at
-  unfolding readList
+  pub read-refused : (n at d w : ℕ) → shown_of (found t s) ≡ shown.Refused n at → read_list t s d w ≡ refused n at
+  unfolding read_list
   read-refused n at d w e = rw (shown-refused (found t s) n at e)

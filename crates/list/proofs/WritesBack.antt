@@ -5,21 +5,21 @@ use mathlib.Core.Path.{◌≡◌, refl, sym, ap, ◌∙◌}
 use mathlib.Core.List.{List, [], ◌∷◌, ◌++◌, append-nil}
 use lib.ListN.{length, take, drop, length-append, length-drop, drop_of_length-le}
 use lib.Seq.{take_all, take_at, drop_at}
-use Rattle.model.specs.Limits.{maxDocid}
+use Rattle.model.specs.Limits.{max_docid}
 use Rattle.model.specs.Outcome.{done}
-use Rattle.model.specs.Post.{Post, postings, docs, scores, Rising, Scored, lastDoc}
+use Rattle.model.specs.Post.{Post, postings, docs, scores, Rising, Scored, last_doc}
 use Rattle.model.specs.Runs.{All, Bytes}
-use Rattle.model.proofs.Lists.{All-append, map-length}
+use Rattle.model.proofs.Lists.{All_append, map-length}
 use Rattle.model.proofs.Posts.{last-append, rising-join}
-use Rattle.shelf.specs.Walk.{Block, Listing, postsOf, stripOf, list}
-use Rattle.shelf.specs.Check.{badBody}
+use Rattle.shelf.specs.Walk.{Block, Listing, posts_of, strip_of, list}
+use Rattle.shelf.specs.Check.{bad_body}
 use Rattle.shelf.specs.declared.check.BadRead.TheVariants.{NoBad}
-use Rattle.list.specs.Write.{packed, listBytes, Writable, Paired, Full, writeList}
+use Rattle.list.specs.Write.{packed, list_bytes, Writable, Paired, Full, write_list}
 use Rattle.list.proofs.Writes.{Fine, Fines, joined, list-bytes}
 use Rattle.list.proofs.Accepted.{accepted-written}
-use Rattle.list.proofs.Canonical.{chunk, chunks, chunks-length, list-only}
+use Rattle.list.proofs.Canonical.{chunk, chunks, chunks_length, list-only}
 
-pub posts-joined : (bs : List Block) → postsOf bs ≡ joined (chunks bs)
+pub posts-joined : (bs : List Block) → posts_of bs ≡ joined (chunks bs)
 posts-joined [] = refl
 posts-joined (b ∷ bs) = ap (λ (ps : List Post). chunk b.sum b.body ++ ps) (posts-joined bs)
 
@@ -30,10 +30,10 @@ unfolding packed
 packed-end zero = refl
 packed-end (suc n) = refl
 
-packed-full : (n : ℕ) (c r : List Post) → length c ≡ 100 → packed (suc n) (c ++ r) ≡ c ∷ packed n r
+packed_full : (n : ℕ) (c r : List Post) → length c ≡ 100 → packed (suc n) (c ++ r) ≡ c ∷ packed n r
 unfolding packed
-packed-full n [] r e = absurd (omega arith)
-packed-full n (p ∷ ps) r e =
+packed_full n [] r e = absurd (omega arith)
+packed_full n (p ∷ ps) r e =
     let k : length ps ≡ 99 = omega arith in
     rw (take_at ps r 99 k, drop_at ps r 99 k)
 
@@ -42,25 +42,25 @@ unfolding packed
 packed-last n [] h k = absurd (omega arith)
 packed-last n (p ∷ ps) h k = rw (take_all 99 ps (omega arith), drop_of_length-le ps {i = 99} (omega arith), packed-end n)
 
-fine-some : (p : ℕ) (c : List Post) → Fine p c → 0 < length c
-fine-some p [] f = absurd f
-fine-some p (x ∷ xs) f = omega arith
+fine_some : (p : ℕ) (c : List Post) → Fine p c → 0 < length c
+fine_some p [] f = absurd f
+fine_some p (x ∷ xs) f = omega arith
 
-pub fine-few : (p : ℕ) (c : List Post) → Fine p c → length c ≤ 100
-fine-few p [] f = absurd f
-fine-few p (x ∷ xs) f = f.2
+pub fine_few : (p : ℕ) (c : List Post) → Fine p c → length c ≤ 100
+fine_few p [] f = absurd f
+fine_few p (x ∷ xs) f = f.2
 
-packed-chunks : (n p : ℕ) (bs : List Block) → length bs ≤ n → Fines p (chunks bs) → All (λ (x : Block). length (chunk x.sum x.body) ≡ x.sum.count) bs → Full bs →
+packed_chunks : (n p : ℕ) (bs : List Block) → length bs ≤ n → Fines p (chunks bs) → All (λ (x : Block). length (chunk x.sum x.body) ≡ x.sum.count) bs → Full bs →
     packed n (joined (chunks bs)) ≡ chunks bs
-packed-chunks n p [] h f z u = packed-end n
-packed-chunks zero p (b ∷ bs) h f z u = absurd (omega arith)
-packed-chunks (suc n) p (b ∷ []) h f z u =
+packed_chunks n p [] h f z u = packed-end n
+packed_chunks zero p (b ∷ bs) h f z u = absurd (omega arith)
+packed_chunks (suc n) p (b ∷ []) h f z u =
     let c = chunk b.sum b.body in
-    rw (append-nil c) (packed-last n c (fine-some p c f.0) (fine-few p c f.0))
-packed-chunks (suc n) p (b ∷ d ∷ bs) h f z u =
+    rw (append-nil c) (packed-last n c (fine_some p c f.0) (fine_few p c f.0))
+packed_chunks (suc n) p (b ∷ d ∷ bs) h f z u =
     let c = chunk b.sum b.body in
-    packed-full n c (joined (chunks (d ∷ bs))) (z.0 ∙ u.0)
-    ∙ ap (λ (x : List (List Post)). c ∷ x) (packed-chunks n (lastDoc p c) (d ∷ bs) (omega arith) f.1 z.1 u.1)
+    packed_full n c (joined (chunks (d ∷ bs))) (z.0 ∙ u.0)
+    ∙ ap (λ (x : List (List Post)). c ∷ x) (packed_chunks n (last_doc p c) (d ∷ bs) (omega arith) f.1 z.1 u.1)
 
 -- ---- the postings that were read may be written
 
@@ -68,18 +68,18 @@ record Joined (p n : ℕ) (ps : List Post) : Type 0 where
   few : length ps ≤ 100 * n
   rise : Rising p ps
   scored : Scored ps
-  last : p ≤ maxDocid → lastDoc p ps ≤ maxDocid
+  last : p ≤ max_docid → last_doc p ps ≤ max_docid
 
-fines-joined : (p : ℕ) (cs : List (List Post)) → Fines p cs → Joined p (length cs) (joined cs)
-fines-joined p [] f = record { few = omega arith; rise = tt; scored = tt; last = λ h. h }
-fines-joined p ([] ∷ cs) f = absurd f.0
-fines-joined p ((x ∷ xs) ∷ cs) f =
+fines_joined : (p : ℕ) (cs : List (List Post)) → Fines p cs → Joined p (length cs) (joined cs)
+fines_joined p [] f = record { few = omega arith; rise = tt; scored = tt; last = λ h. h }
+fines_joined p ([] ∷ cs) f = absurd f.0
+fines_joined p ((x ∷ xs) ∷ cs) f =
     let c = x ∷ xs in
-    let r = fines-joined (lastDoc p c) cs f.1 in
+    let r = fines_joined (last_doc p c) cs f.1 in
     record {
       few = omega (arith, length-append c (joined cs), f.0.2, r.few);
       rise = rising-join p c (joined cs) f.0.0 r.rise;
-      scored = All-append (λ (y : Post). (0 < y.score) × (y.score ≤ 65535)) c (joined cs) f.0.1 r.scored;
+      scored = All_append (λ (y : Post). (0 < y.score) × (y.score ≤ 65535)) c (joined cs) f.0.1 r.scored;
       last = λ h. rw (last-append p c (joined cs)) (r.last f.0.3);
     }
 
@@ -101,13 +101,13 @@ front_of v s k h e =
     let n : length v ≡ k = omega (arith, length-append v (drop k s), length-drop k s, ap length e) in
     (sym (take_at v (drop k s) k n) ∙ ap (take k) e, n)
 
-module _ (floor at : ℕ) (s : List ℕ) (l : Listing) (h : Bytes s) (e : list floor at s ≡ done l) (f : badBody l.blocks ≡ NoBad) where
+module _ (floor at : ℕ) (s : List ℕ) (l : Listing) (h : Bytes s) (e : list floor at s ≡ done l) (f : bad_body l.blocks ≡ NoBad) where
   -- the postings of a list that was read, its bodies right, may be written
-  pub read-writable : Writable (postsOf l.blocks)
-  read-writable =
+  pub read_writable : Writable (posts_of l.blocks)
+  read_writable =
       let r = list-only floor at s l h e f in
-      let n = chunks-length l.blocks in
-      let j = fines-joined 0 (chunks l.blocks) r.fine in
+      let n = chunks_length l.blocks in
+      let j = fines_joined 0 (chunks l.blocks) r.fine in
       rw (posts-joined l.blocks)
       (record {
         some = joined-some 0 (chunks l.blocks) r.fine (omega (arith, r.some));
@@ -118,20 +118,20 @@ module _ (floor at : ℕ) (s : List ℕ) (l : Listing) (h : Bytes s) (e : list f
       })
 
   -- "a sound list with every block but the last full, read and written, is the same bytes"
-  pub packed-writes-back : Full l.blocks → listBytes (stripOf l.blocks) l.place.term (postsOf l.blocks) ++ drop (l.place.next - at) s ≡ s
-  packed-writes-back u =
+  pub packed_writes_back : Full l.blocks → list_bytes (strip_of l.blocks) l.place.term (posts_of l.blocks) ++ drop (l.place.next - at) s ≡ s
+  packed_writes_back u =
       let r = list-only floor at s l h e f in
-      rw (list-bytes (stripOf l.blocks) l.place.term (postsOf l.blocks), posts-joined l.blocks, packed-chunks 64 0 l.blocks r.few r.fine r.sized u) r.bytes
+      rw (list-bytes (strip_of l.blocks) l.place.term (posts_of l.blocks), posts-joined l.blocks, packed_chunks 64 0 l.blocks r.few r.fine r.sized u) r.bytes
 
   -- the same through the writer: the runs that were read give the bytes that were read
   pub written_back : Full l.blocks → (room : ℕ) → l.place.next - at ≤ room →
-      writeList (stripOf l.blocks) l.place.term (docs (postsOf l.blocks)) (scores (postsOf l.blocks)) room ≡ done (take (l.place.next - at) s)
+      write_list (strip_of l.blocks) l.place.term (docs (posts_of l.blocks)) (scores (posts_of l.blocks)) room ≡ done (take (l.place.next - at) s)
   written_back u room fits =
-      let strip = stripOf l.blocks in
+      let strip = strip_of l.blocks in
       let t = l.place.term in
-      let ps = postsOf l.blocks in
+      let ps = posts_of l.blocks in
       let r = list-only floor at s l h e f in
-      let b = front_of (listBytes strip t ps) s (l.place.next - at) (omega (arith, r.within)) (packed-writes-back u) in
-      let q : listBytes strip t (postings (docs ps) (scores ps)) ≡ take (l.place.next - at) s = ap (listBytes strip t) (runs-postings ps) ∙ b.0 in
-      let n : length (listBytes strip t (postings (docs ps) (scores ps))) ≤ room = omega (arith, ap length (ap (listBytes strip t) (runs-postings ps)), b.1) in
-      accepted-written strip t (docs ps) (scores ps) room (runs-paired ps read-writable) n ∙ ap done q
+      let b = front_of (list_bytes strip t ps) s (l.place.next - at) (omega (arith, r.within)) (packed_writes_back u) in
+      let q : list_bytes strip t (postings (docs ps) (scores ps)) ≡ take (l.place.next - at) s = ap (list_bytes strip t) (runs-postings ps) ∙ b.0 in
+      let n : length (list_bytes strip t (postings (docs ps) (scores ps))) ≤ room = omega (arith, ap length (ap (list_bytes strip t) (runs-postings ps)), b.1) in
+      accepted-written strip t (docs ps) (scores ps) room (runs-paired ps read_writable) n ∙ ap done q

@@ -4,9 +4,9 @@ use Rattle.model.specs.Outcome.{Outcome, refused, done, and_then}
 use Rattle.model.specs.Post.{Post, docs, scores}
 use Rattle.list.specs.Answer.{Gives}
 use Rattle.list.specs.declared.answer.Answer.{Answer}
-use Rattle.shelf.specs.Walk.{Block, postsOf}
+use Rattle.shelf.specs.Walk.{Block, posts_of}
 use Rattle.lookup.specs.Find.{found}
-use Rattle.shelf.specs.Check.{badBody}
+use Rattle.shelf.specs.Check.{bad_body}
 use Rattle.shelf.specs.declared.check.BadRead.{BadRead}
 use Rattle.shelf.specs.declared.check.BadRead.TheVariants.{BadAt, NoBad}
 
@@ -16,29 +16,29 @@ count_of [] = 0
 count_of (b ∷ bs) = b.sum.count + count_of bs
 
 -- the list's postings, where no body is wrong; the first wrong body's tag otherwise
-abbrev pub heldBy : List Block → BadRead → Outcome (List Post)
-heldBy bs NoBad = done (postsOf bs)
-heldBy bs (BadAt o) = refused 8 o
+abbrev pub held_by : List Block → BadRead → Outcome (List Post)
+held_by bs NoBad = done (posts_of bs)
+held_by bs (BadAt o) = refused 8 o
 
 -- the postings, where two runs of d and w numbers have room for them
-abbrev pub inRoom : (d w : ℕ) → List Post → Outcome (List Post)
-inRoom d w ps = cond (leb (length ps) (min d w)) (done ps) (refused 9 0)
+abbrev pub in_room : (d w : ℕ) → List Post → Outcome (List Post)
+in_room d w ps = cond (leb (length ps) (min d w)) (done ps) (refused 9 0)
 
-abbrev pub readBlocks : List Block → (d w : ℕ) → Outcome (List Post)
-readBlocks bs d w = and_then (heldBy bs (badBody bs)) (inRoom d w)
+abbrev pub read_blocks : List Block → (d w : ℕ) → Outcome (List Post)
+read_blocks bs d w = and_then (held_by bs (bad_body bs)) (in_room d w)
 
 -- the postings of the list of term t, for two runs of d and w numbers, or the first refusal in that order
-unfoldable pub readList : (t : ℕ) → List ℕ → (d w : ℕ) → Outcome (List Post)
-readList t s d w = and_then (found t s) (λ l. readBlocks l.blocks d w)
+unfoldable pub read_list : (t : ℕ) → List ℕ → (d w : ℕ) → Outcome (List Post)
+read_list t s d w = and_then (found t s) (λ l. read_blocks l.blocks d w)
 
 -- what two lent runs get of them
-abbrev pub docidsOf : Outcome (List Post) → Outcome (List ℕ)
-docidsOf o = and_then o (λ ps. done (docs ps))
+abbrev pub docids_of : Outcome (List Post) → Outcome (List ℕ)
+docids_of o = and_then o (λ ps. done (docs ps))
 
-abbrev pub scoresOf : Outcome (List Post) → Outcome (List ℕ)
-scoresOf o = and_then o (λ ps. done (scores ps))
+abbrev pub scores_of : Outcome (List Post) → Outcome (List ℕ)
+scores_of o = and_then o (λ ps. done (scores ps))
 
 -- the contract of a reader: its answer, and both runs that were lent to it
 pub record Reads (o : Outcome (List Post)) (ds ss ds' ss' : List ℕ) (r : Answer) : Type 0 where
-  pub docids : Gives (docidsOf o) ds ds' r
-  pub scored : Gives (scoresOf o) ss ss' r
+  pub docids : Gives (docids_of o) ds ds' r
+  pub scored : Gives (scores_of o) ss ss' r

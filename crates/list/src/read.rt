@@ -1,8 +1,8 @@
 // The reader of one list: its postings into a run of docids beside a run of scores.
 ghost use Rattle.std.specs.Prelude.{◌≡◌, ◌≤◌, length};
-ghost use Rattle.shelf.specs.Walk.{blocksAt};
+ghost use Rattle.shelf.specs.Walk.{blocks_at};
 ghost use Rattle.shelf.specs.Answers.{Ready};
-ghost use Rattle.list.specs.Read.{count_of, readBlocks, readList, Reads};
+ghost use Rattle.list.specs.Read.{count_of, read_blocks, read_list, Reads};
 ghost use Rattle.list.specs.Fill.{Fillable, Filled};
 
 use crate::answer::Answer;
@@ -14,7 +14,7 @@ use shelf::walk::Place;
 // How many postings a list's summaries say it has.
 pub(crate) fn count(s: &[u8], list: Place) -> usize
     requires { Ready s.now list }
-    ensures { result ≡ count_of (blocksAt s.now list.at list.count) }
+    ensures { result ≡ count_of (blocks_at s.now list.at list.count) }
 {
     let mut r = Reading::new(list);
     let mut n: usize = 0;
@@ -55,7 +55,7 @@ pub fn fill(s: &[u8], list: Place, docids: &mut [u32], scores: &mut [u16]) -> us
 // The postings of a walked list: 8, then 9, then into the runs.
 fn read_place(s: &[u8], list: Place, docids: &mut [u32], scores: &mut [u16]) -> Answer
     requires { Ready s.now list }
-    ensures { Reads (readBlocks (blocksAt s.now list.at list.count) (length docids.old) (length scores.old)) docids.old scores.old docids.new scores.new result }
+    ensures { Reads (read_blocks (blocks_at s.now list.at list.count) (length docids.old) (length scores.old)) docids.old scores.old docids.new scores.new result }
 {
     match shelf::check::bad_body(s, list) {
         BadRead::BadAt(o) => Answer::Refused(8, o),
@@ -74,7 +74,7 @@ fn read_place(s: &[u8], list: Place, docids: &mut [u32], scores: &mut [u16]) -> 
 
 // Reads the list of a term into two runs, which a refusal leaves as they were.
 pub fn read_list(s: &[u8], term: u32, docids: &mut [u32], scores: &mut [u16]) -> Answer
-    ensures { Reads (readList term s.now (length docids.old) (length scores.old)) docids.old scores.old docids.new scores.new result }
+    ensures { Reads (read_list term s.now (length docids.old) (length scores.old)) docids.old scores.old docids.new scores.new result }
 {
     match lookup::find::find_list(s, term) {
         Shown::List(list) => read_place(s, list, docids, scores),

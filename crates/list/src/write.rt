@@ -1,13 +1,13 @@
 // Writing one posting list: its length first, then its bytes, so that a refusal leaves the buffer as it was.
 ghost use Rattle.std.specs.Prelude.{◌≡◌, Bool, ◌++◌, ℕ, ◌+◌, ◌≤◌, ◌<◌, min, length};
-ghost use Rattle.model.specs.Limits.{perBlock, perList};
+ghost use Rattle.model.specs.Limits.{per_block, per_list};
 ghost use Rattle.model.specs.Post.{postings, Even};
 ghost use Rattle.model.specs.Runs.{Stored};
 ghost use Rattle.wire.specs.Number.{be};
-ghost use Rattle.wire.specs.Field.{fieldBytes};
-ghost use Rattle.block.specs.Body.{tagOf, bodyBytes};
+ghost use Rattle.wire.specs.Field.{field_bytes};
+ghost use Rattle.block.specs.Body.{tag_of, body_bytes};
 ghost use Rattle.list.specs.Answer.{Gives};
-ghost use Rattle.list.specs.Write.{packed, sumsBytes, bodiesBytes, listBytes, faultAt, writeList, Paired};
+ghost use Rattle.list.specs.Write.{packed, sums_bytes, bodies_bytes, list_bytes, fault_at, write_list, Paired};
 
 use crate::answer::Answer;
 
@@ -16,7 +16,7 @@ use crate::answer::Answer;
 // Where the block ends that begins at posting `a` of `n`.
 fn block_end(n: usize, a: usize) -> usize
     requires { a ≤ n }
-    ensures { result ≡ min (a + perBlock) n }
+    ensures { result ≡ min (a + per_block) n }
 {
     let full = model::PER_BLOCK as usize;
     if n - a <= full { n } else { a + full }
@@ -24,8 +24,8 @@ fn block_end(n: usize, a: usize) -> usize
 
 // A block's body, as a field.
 pub fn put_body_field(out: &mut [u8], at: usize, strip: bool, docs: &[u32], scores: &[u16]) -> usize
-    requires { (0 < length docs.now) × (length docs.now ≤ perBlock) × Even 0 docs.now scores.now × (at + length (fieldBytes (tagOf strip) (bodyBytes strip (postings docs.now scores.now))) ≤ length out.old) }
-    ensures { Stored out.old out.new at result (fieldBytes (tagOf strip) (bodyBytes strip (postings docs.now scores.now))) }
+    requires { (0 < length docs.now) × (length docs.now ≤ per_block) × Even 0 docs.now scores.now × (at + length (field_bytes (tag_of strip) (body_bytes strip (postings docs.now scores.now))) ≤ length out.old) }
+    ensures { Stored out.old out.new at result (field_bytes (tag_of strip) (body_bytes strip (postings docs.now scores.now))) }
 {
     let n = block::body::body_len(docs, scores);
     let a = wire::field::put_head(out, at, block::body::tag_of(strip), n as u16);
@@ -35,7 +35,7 @@ pub fn put_body_field(out: &mut [u8], at: usize, strip: bool, docs: &[u32], scor
 // A list's header.
 fn put_header(out: &mut [u8], at: usize, term: u32, count: u8) -> usize
     requires { at + 8 ≤ length out.old }
-    ensures { Stored out.old out.new at result (fieldBytes 1 (be 4 term ++ be 1 count)) }
+    ensures { Stored out.old out.new at result (field_bytes 1 (be 4 term ++ be 1 count)) }
 {
     let a = wire::field::put_head(out, at, 1, 5);
     let b = wire::number::put4(out, a, term);
@@ -45,8 +45,8 @@ fn put_header(out: &mut [u8], at: usize, term: u32, count: u8) -> usize
 // ---- a list's parts, each from two runs that may be written, at a place that has room
 
 fn put_summaries(out: &mut [u8], at: usize, strip: bool, docs: &[u32], scores: &[u16]) -> usize
-    requires { Paired docs.now scores.now × (at + length (sumsBytes strip (packed perList (postings docs.now scores.now))) ≤ length out.old) }
-    ensures { Stored out.old out.new at result (sumsBytes strip (packed perList (postings docs.now scores.now))) }
+    requires { Paired docs.now scores.now × (at + length (sums_bytes strip (packed per_list (postings docs.now scores.now))) ≤ length out.old) }
+    ensures { Stored out.old out.new at result (sums_bytes strip (packed per_list (postings docs.now scores.now))) }
 {
     let mut j = at;
     let mut a = 0;
@@ -60,8 +60,8 @@ fn put_summaries(out: &mut [u8], at: usize, strip: bool, docs: &[u32], scores: &
 }
 
 fn put_bodies(out: &mut [u8], at: usize, strip: bool, docs: &[u32], scores: &[u16]) -> usize
-    requires { Paired docs.now scores.now × (at + length (bodiesBytes strip (packed perList (postings docs.now scores.now))) ≤ length out.old) }
-    ensures { Stored out.old out.new at result (bodiesBytes strip (packed perList (postings docs.now scores.now))) }
+    requires { Paired docs.now scores.now × (at + length (bodies_bytes strip (packed per_list (postings docs.now scores.now))) ≤ length out.old) }
+    ensures { Stored out.old out.new at result (bodies_bytes strip (packed per_list (postings docs.now scores.now))) }
 {
     let mut j = at;
     let mut a = 0;
@@ -78,7 +78,7 @@ fn put_bodies(out: &mut [u8], at: usize, strip: bool, docs: &[u32], scores: &[u1
 // How many bytes the list takes, whatever its term and its layout: a block's are a summary of 12, and a body field of 3 and its body.
 pub fn list_len(docs: &[u32], scores: &[u16]) -> usize
     requires { Paired docs.now scores.now }
-    ensures { (strip : Bool) (t : ℕ) → result ≡ length (listBytes strip t (postings docs.now scores.now)) }
+    ensures { (strip : Bool) (t : ℕ) → result ≡ length (list_bytes strip t (postings docs.now scores.now)) }
 {
     let mut n = 8;
     let mut a = 0;
@@ -99,8 +99,8 @@ pub fn put_list(
     docs: &[u32],
     scores: &[u16],
 ) -> usize
-    requires { Paired docs.now scores.now × (at + length (listBytes strip term (postings docs.now scores.now)) ≤ length out.old) }
-    ensures { Stored out.old out.new at result (listBytes strip term (postings docs.now scores.now)) }
+    requires { Paired docs.now scores.now × (at + length (list_bytes strip term (postings docs.now scores.now)) ≤ length out.old) }
+    ensures { Stored out.old out.new at result (list_bytes strip term (postings docs.now scores.now)) }
 {
     let full = model::PER_BLOCK as usize;
     let count = (docs.len() + full - 1) / full;
@@ -114,7 +114,7 @@ pub fn put_list(
 // The index of the first posting at fault, or how many there are.
 fn first_fault(docs: &[u32], scores: &[u16]) -> usize
     requires { length docs.now ≡ length scores.now }
-    ensures { result ≡ faultAt 0 (postings docs.now scores.now) }
+    ensures { result ≡ fault_at 0 (postings docs.now scores.now) }
 {
     let mut p = 0;
     let mut i = 0;
@@ -138,7 +138,7 @@ fn first_fault(docs: &[u32], scores: &[u16]) -> usize
 
 // Writes a list, in the layout that is told, to the front of a buffer, which a refusal leaves as it was.
 pub fn write_list(strip: bool, term: u32, docids: &[u32], scores: &[u16], out: &mut [u8]) -> Answer
-    ensures { Gives (writeList strip term docids.now scores.now (length out.old)) out.old out.new result }
+    ensures { Gives (write_list strip term docids.now scores.now (length out.old)) out.old out.new result }
 {
     let n = docids.len();
     let m = scores.len();

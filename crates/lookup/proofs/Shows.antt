@@ -12,10 +12,10 @@ use Rattle.wire.specs.Field.{field_at}
 use Rattle.wire.specs.declared.field.FieldRead.TheVariants.{Whole, Missing}
 use Rattle.wire.proofs.Fields.{field_is, field-not}
 use Rattle.block.specs.Summary.{sum_of}
-use Rattle.block.specs.Body.{isStrip, tagOf}
+use Rattle.block.specs.Body.{is_strip, tag_of}
 use Rattle.shelf.specs.Walk.{bodies}
 use Rattle.shelf.specs.Answers.{place_of}
-use Rattle.lookup.specs.Show.{bodiesFrom, hasBlock, summaryShown, part_at, bodyShown}
+use Rattle.lookup.specs.Show.{bodies_from, has_block, summary_shown, part_at, body_shown}
 use Rattle.shelf.specs.declared.walk.Place.{Place}
 use Rattle.shelf.specs.declared.walk.PlaceRead.TheVariants.{Past, Refused}
 use Rattle.lookup.specs.declared.find.Shown.TheVariants as shown
@@ -25,70 +25,70 @@ use Rattle.shelf.proofs.Walks.{place-past, place-refused}
 
 -- ---- whether there is a block
 
-leb-less : (a k n : ℕ) → k ≤ n → leb a (n - k) ≡ leb (a + k) n
-leb-less a k n h =
+leb_less : (a k n : ℕ) → k ≤ n → leb a (n - k) ≡ leb (a + k) n
+leb_less a k n h =
     split (leb (a + k) n)
     (λ e. rw e (le-leb a (n - k) (omega (arith, leb-true (a + k) n e))))
     (λ e. rw e (lt-leb a (n - k) (omega (arith, leb-false (a + k) n e))))
 
 module _ (s : List ℕ) (p : Place) (j : ℕ) where
-  pub has-not : p.count ≤ j → false ≡ hasBlock s p j
-  unfolding hasBlock
+  pub has-not : p.count ≤ j → false ≡ has_block s p j
+  unfolding has_block
   has-not h = rw (le-ltb j p.count h)
 
-  pub has_short : j < p.count → length s < 8 + 12 * p.count → false ≡ hasBlock s p j
-  unfolding hasBlock
-  has_short h k = rw (lt-ltb j p.count h, lt-leb (bodiesFrom p) (length s) (omega arith))
+  pub has_short : j < p.count → length s < 8 + 12 * p.count → false ≡ has_block s p j
+  unfolding has_block
+  has_short h k = rw (lt-ltb j p.count h, lt-leb (bodies_from p) (length s) (omega arith))
 
-  pub has_room : j < p.count → 8 + 12 * p.count ≤ length s → leb p.at (length s - (8 + 12 * p.count)) ≡ hasBlock s p j
-  unfolding hasBlock
+  pub has_room : j < p.count → 8 + 12 * p.count ≤ length s → leb p.at (length s - (8 + 12 * p.count)) ≡ has_block s p j
+  unfolding has_block
   has_room h k =
-      let e : p.at + (8 + 12 * p.count) ≡ bodiesFrom p = omega arith in
-      rw (lt-ltb j p.count h, leb-less p.at (8 + 12 * p.count) (length s) k, e)
+      let e : p.at + (8 + 12 * p.count) ≡ bodies_from p = omega arith in
+      rw (lt-ltb j p.count h, leb_less p.at (8 + 12 * p.count) (length s) k, e)
 
-  pub has-facts : hasBlock s p j ≡ true → (j < p.count) × (bodiesFrom p ≤ length s)
-  unfolding hasBlock
-  has-facts e =
-      let a = and-true (ltb j p.count) (leb (bodiesFrom p) (length s)) e in
+  pub has_facts : has_block s p j ≡ true → (j < p.count) × (bodies_from p ≤ length s)
+  unfolding has_block
+  has_facts e =
+      let a = and-true (ltb j p.count) (leb (bodies_from p) (length s)) e in
       (ltb-true _ _ a.0, leb-true _ _ a.1)
 
   -- ---- its summary
 
-  pub summary-here : hasBlock s p j ≡ true → summaryShown s (shown.List p) j ≡ Numbers (sum_of (isStrip (drop (bodiesFrom p) s)) (drop (p.at + 8 + 12 * j) s))
-  unfolding summaryShown
+  pub summary-here : has_block s p j ≡ true → summary_shown s (shown.List p) j ≡ Numbers (sum_of (is_strip (drop (bodies_from p) s)) (drop (p.at + 8 + 12 * j) s))
+  unfolding summary_shown
   summary-here e = rw e
 
-  pub summary-none : hasBlock s p j ≡ false → summaryShown s (shown.List p) j ≡ NoSummary 12 0
-  unfolding summaryShown
+  pub summary-none : has_block s p j ≡ false → summary_shown s (shown.List p) j ≡ NoSummary 12 0
+  unfolding summary_shown
   summary-none e = rw e
 
   -- ---- its body
 
-  pub body-here : hasBlock s p j ≡ true → (b : ℕ) → place_of (bodies j (bodiesFrom p) (drop (bodiesFrom p) s)) ≡ Past b → bodyShown s (shown.List p) j ≡ part_at s b
-  unfolding bodyShown
-  body-here e b q = rw (e, place-past (bodies j (bodiesFrom p) (drop (bodiesFrom p) s)) b q)
+  pub body-here : has_block s p j ≡ true → (b : ℕ) → place_of (bodies j (bodies_from p) (drop (bodies_from p) s)) ≡ Past b → body_shown s (shown.List p) j ≡ part_at s b
+  unfolding body_shown
+  body-here e b q = rw (e, place-past (bodies j (bodies_from p) (drop (bodies_from p) s)) b q)
 
-  pub body-cut : hasBlock s p j ≡ true → (n o : ℕ) → place_of (bodies j (bodiesFrom p) (drop (bodiesFrom p) s)) ≡ Refused n o → bodyShown s (shown.List p) j ≡ NoBody 12 0
-  unfolding bodyShown
-  body-cut e n o q = rw (e, place-refused (bodies j (bodiesFrom p) (drop (bodiesFrom p) s)) n o q)
+  pub body-cut : has_block s p j ≡ true → (n o : ℕ) → place_of (bodies j (bodies_from p) (drop (bodies_from p) s)) ≡ Refused n o → body_shown s (shown.List p) j ≡ NoBody 12 0
+  unfolding body_shown
+  body-cut e n o q = rw (e, place-refused (bodies j (bodies_from p) (drop (bodies_from p) s)) n o q)
 
-  pub body-none : hasBlock s p j ≡ false → bodyShown s (shown.List p) j ≡ NoBody 12 0
-  unfolding bodyShown
+  pub body-none : has_block s p j ≡ false → body_shown s (shown.List p) j ≡ NoBody 12 0
+  unfolding body_shown
   body-none e = rw e
 
-pub summary-refused : (s : List ℕ) (n o j : ℕ) → summaryShown s (shown.Refused n o) j ≡ NoSummary n o
-unfolding summaryShown
+pub summary-refused : (s : List ℕ) (n o j : ℕ) → summary_shown s (shown.Refused n o) j ≡ NoSummary n o
+unfolding summary_shown
 summary-refused s n o j = refl
 
-pub body_refused : (s : List ℕ) (n o j : ℕ) → bodyShown s (shown.Refused n o) j ≡ NoBody n o
-unfolding bodyShown
+pub body_refused : (s : List ℕ) (n o j : ℕ) → body_shown s (shown.Refused n o) j ≡ NoBody n o
+unfolding body_shown
 body_refused s n o j = refl
 
 module _ (s : List ℕ) (b : ℕ) where
-  pub part-there : (n : ℕ) → field_at (tagOf (isStrip (drop b s))) s b ≡ Whole n → part_at s b ≡ Part (b + 3) (b + 3 + n)
+  pub part-there : (n : ℕ) → field_at (tag_of (is_strip (drop b s))) s b ≡ Whole n → part_at s b ≡ Part (b + 3) (b + 3 + n)
   unfolding part_at
-  part-there n e = let i = field_is (tagOf (isStrip (drop b s))) s b n e in rw (i.0, i.1)
+  part-there n e = let i = field_is (tag_of (is_strip (drop b s))) s b n e in rw (i.0, i.1)
 
-  pub part_none : field_at (tagOf (isStrip (drop b s))) s b ≡ Missing → part_at s b ≡ NoBody 12 0
+  pub part_none : field_at (tag_of (is_strip (drop b s))) s b ≡ Missing → part_at s b ≡ NoBody 12 0
   unfolding part_at
-  part_none e = rw (field-not (tagOf (isStrip (drop b s))) s b e)
+  part_none e = rw (field-not (tag_of (is_strip (drop b s))) s b e)

@@ -8,26 +8,26 @@ use mathlib.Core.List.{List, [], ◌∷◌, ◌++◌, map, map-append, append-ni
 use borrow.Author.Tests.{ltb-true, ltb-false}
 use lib.Dec.{ltb}
 use lib.ListN.{length, get_or, set, drop, replicate, length-set, length-append, length-drop}
-use Rattle.model.specs.Limits.{perList, maxTerms}
+use Rattle.model.specs.Limits.{per_list, max_terms}
 use Rattle.model.specs.Runs.{Stored, Holds}
 use Rattle.model.proofs.Lists.{split, map-length}
-use Rattle.model.proofs.Storing.{Rest, rest-start, rest-turn, rest_end, stored-append, stored-as, stored-length, stored-holds, front-more, past_more, run_holds, holds-take, holds-drop}
+use Rattle.model.proofs.Storing.{Rest, rest-start, rest-turn, rest_end, stored-append, stored_as, stored-length, stored-holds, front-more, past_more, run_holds, holds-take, holds-drop}
 use Rattle.block.specs.declared.summary.Summary.{Summary}
-use Rattle.shelf.specs.Walk.{Block, blocksOf, blocksAt}
-use Rattle.shelf.specs.Blocks.{blocksLeft, Rests, Finds}
-use Rattle.shelf.proofs.Readings.{stands-rests}
-use Rattle.lookup.specs.Table.{least, greatest, top, count, tag_at, maxBlocks, Five, runs, Layable, Lays, foundLists, Gatherable, flat, endsFrom, Gathered}
+use Rattle.shelf.specs.Walk.{Block, blocks_of, blocks_at}
+use Rattle.shelf.specs.Blocks.{blocks_left, Rests, Finds}
+use Rattle.shelf.proofs.Readings.{stands_rests}
+use Rattle.lookup.specs.Table.{least, greatest, top, count, tag_at, max_blocks, Five, runs, Layable, Lays, found_lists, Gatherable, flat, ends_from, Gathered}
 use Rattle.shelf.specs.declared.blocks.Reading.{Reading}
 
 -- ---- how many blocks
 
-of_length : (n a b : ℕ) (m s : List ℕ) → length (blocksOf n a m b s) ≡ n
-unfolding blocksOf
+of_length : (n a b : ℕ) (m s : List ℕ) → length (blocks_of n a m b s) ≡ n
+unfolding blocks_of
 of_length zero a b m s = refl
 of_length (suc n) a b m s = ap suc (of_length n (a + 12) _ (drop 12 m) _)
 
-pub blocks-length : (s : List ℕ) (at n : ℕ) → length (blocksAt s at n) ≡ n
-unfolding blocksAt
+pub blocks-length : (s : List ℕ) (at n : ℕ) → length (blocks_at s at n) ≡ n
+unfolding blocks_at
 blocks-length s at n = of_length n (at + 8) (at + 8 + 12 * n) (drop (at + 8) s) (drop (at + 8 + 12 * n) s)
 
 -- ---- one list
@@ -45,21 +45,21 @@ run_end f l m j i all bs e r = rest_end (ap (λ (y : List Block). map f y) e) r
 
 pub record Laying (s : List ℕ) (all : List Block) (j i : ℕ) (r : Reading) (old new : Five) : Type 0 where
   pub rests : Rests s r
-  pub room : j + length all ≤ maxBlocks
-  pub los : Run least old.los new.los j i all (blocksLeft s r)
-  pub his : Run greatest old.his new.his j i all (blocksLeft s r)
-  pub tops : Run top old.tops new.tops j i all (blocksLeft s r)
-  pub counts : Run count old.counts new.counts j i all (blocksLeft s r)
-  pub bodies : Run tag_at old.bodies new.bodies j i all (blocksLeft s r)
+  pub room : j + length all ≤ max_blocks
+  pub los : Run least old.los new.los j i all (blocks_left s r)
+  pub his : Run greatest old.his new.his j i all (blocks_left s r)
+  pub tops : Run top old.tops new.tops j i all (blocks_left s r)
+  pub counts : Run count old.counts new.counts j i all (blocks_left s r)
+  pub bodies : Run tag_at old.bodies new.bodies j i all (blocks_left s r)
 
-pub laying-start : (s : List ℕ) (at n j : ℕ) (to : Five) → Layable s at n j to → (n ≡ 0 → ⊥) →
-    Laying s (blocksAt s at n) j j (record { sum = at + 8; body = at + 8 + 12 * n; left = n }) to to
-unfolding blocksAt blocksLeft
-laying-start s at n j to h z =
+pub laying_start : (s : List ℕ) (at n j : ℕ) (to : Five) → Layable s at n j to → (n ≡ 0 → ⊥) →
+    Laying s (blocks_at s at n) j j (record { sum = at + 8; body = at + 8 + 12 * n; left = n }) to to
+unfolding blocks_at blocks_left
+laying_start s at n j to h z =
     let k = h.ready (omega arith) in
-    let bs = blocksAt s at n in
+    let bs = blocks_at s at n in
     record {
-      rests = stands-rests s at n k.0 k.1;
+      rests = stands_rests s at n k.0 k.1;
       room = omega (arith, h.room, blocks-length s at n);
       los = rest-start to.los j (map least bs);
       his = rest-start to.his j (map greatest bs);
@@ -70,15 +70,15 @@ laying-start s at n j to h z =
 
 module _ (s : List ℕ) (all : List Block) (j i : ℕ) (r : Reading) (old new : Five) (g : Laying s all j i r old new) where
   module _ (b : Block) (v e : ℕ) (next : Reading) (m : Summary) (q : b.sum ≡ m) (f : Finds s r b v e next) where
-    pub laying-room : i < maxBlocks
-    laying-room =
-        omega (arith, g.room, g.los.place, map-length least (blocksLeft s r), map-length least all, ap length f.left)
+    pub laying_room : i < max_blocks
+    laying_room =
+        omega (arith, g.room, g.los.place, map-length least (blocks_left s r), map-length least all, ap length f.left)
 
-    pub laying-turn : Laying s all j (i + 1) next old
+    pub laying_turn : Laying s all j (i + 1) next old
         (runs (set new.los i m.least) (set new.his i m.greatest) (set new.tops i m.top) (set new.counts i m.count) (set new.bodies i (v - 3)))
-    laying-turn =
-        let rest = blocksLeft s next in
-        let here = blocksLeft s r in
+    laying_turn =
+        let rest = blocks_left s next in
+        let here = blocks_left s r in
         record {
           rests = f.rests;
           room = g.room;
@@ -89,9 +89,9 @@ module _ (s : List ℕ) (all : List Block) (j i : ℕ) (r : Reading) (old new : 
           bodies = run-turn tag_at old.bodies new.bodies j i (v - 3) all here rest b f.left (omega (arith, f.tag)) g.bodies;
         }
 
-  pub laying-end : blocksLeft s r ≡ [] → Lays all j i old new
-  laying-end e =
-      let here = blocksLeft s r in
+  pub laying_end : blocks_left s r ≡ [] → Lays all j i old new
+  laying_end e =
+      let here = blocks_left s r in
       record {
         los = run_end least old.los new.los j i all here e g.los;
         his = run_end greatest old.his new.his j i all here e g.his;
@@ -101,9 +101,9 @@ module _ (s : List ℕ) (all : List Block) (j i : ℕ) (r : Reading) (old new : 
       }
 
 -- a list without blocks
-pub lays-none : (s : List ℕ) (at n j : ℕ) (to : Five) → n ≡ 0 → Lays (blocksAt s at n) j j to to
-unfolding blocksAt blocksOf
-lays-none s at n j to z = rw z (record { los = same to.los; his = same to.his; tops = same to.tops; counts = same to.counts; bodies = same to.bodies })
+pub lays_none : (s : List ℕ) (at n j : ℕ) (to : Five) → n ≡ 0 → Lays (blocks_at s at n) j j to to
+unfolding blocks_at blocks_of
+lays_none s at n j to z = rw z (record { los = same to.los; his = same to.his; tops = same to.tops; counts = same to.counts; bodies = same to.bodies })
   where
     same : (l : List ℕ) → Stored l l j j []
     same l = record { past = sym (add-zero j); whole = refl }
@@ -114,11 +114,11 @@ flat-more : (ls : List (List Block)) (bs : List Block) → flat (ls ++ (bs ∷ [
 flat-more [] bs = append-nil bs
 flat-more (cs ∷ ls) bs = rw (flat-more ls bs) (sym (append_assoc cs (flat ls) bs))
 
-ends_more : (k : ℕ) (ls : List (List Block)) (bs : List Block) → endsFrom k (ls ++ (bs ∷ [])) ≡ endsFrom k ls ++ ((k + length (flat ls ++ bs)) ∷ [])
+ends_more : (k : ℕ) (ls : List (List Block)) (bs : List Block) → ends_from k (ls ++ (bs ∷ [])) ≡ ends_from k ls ++ ((k + length (flat ls ++ bs)) ∷ [])
 ends_more k [] bs = refl
 ends_more k (cs ∷ ls) bs =
     let e : k + length cs + length (flat ls ++ bs) ≡ k + length ((cs ++ flat ls) ++ bs) = omega (arith, length-append cs (flat ls), length-append (cs ++ flat ls) bs, length-append (flat ls) bs) in
-    ap {B = List ℕ} (λ x. (k + length cs) ∷ x) (ends_more (k + length cs) ls bs ∙ ap (λ (x : ℕ). endsFrom (k + length cs) ls ++ (x ∷ [])) e)
+    ap {B = List ℕ} (λ x. (k + length cs) ∷ x) (ends_more (k + length cs) ls bs ∙ ap (λ (x : ℕ). ends_from (k + length cs) ls ++ (x ∷ [])) e)
 
 -- one number more at the end of a run that is held at the front
 holds_more : (old xs new : List ℕ) (o x : ℕ) → o < length new → Holds old xs new o → Holds old (xs ++ (x ∷ [])) (set new o x) (o + 1)
@@ -128,35 +128,35 @@ holds_more old xs new o x h k =
     (past_more old new o x (holds-drop old xs new o k))
 
 abbrev none : Five
-none = runs (replicate maxBlocks 0) (replicate maxBlocks 0) (replicate maxBlocks 0) (replicate maxBlocks 0) (replicate maxBlocks 0)
+none = runs (replicate max_blocks 0) (replicate max_blocks 0) (replicate max_blocks 0) (replicate max_blocks 0) (replicate max_blocks 0)
 
 pub record Gathering (s ats sizes : List ℕ) (t all : ℕ) (ends : List ℕ) (new : Five) : Type 0 where
-  pub few : length (flat (foundLists s ats sizes t)) ≤ perList * t
-  pub laid : Lays (flat (foundLists s ats sizes t)) 0 all none new
-  pub held : Holds (replicate maxTerms 0) (endsFrom 0 (foundLists s ats sizes t)) ends t
+  pub few : length (flat (found_lists s ats sizes t)) ≤ per_list * t
+  pub laid : Lays (flat (found_lists s ats sizes t)) 0 all none new
+  pub held : Holds (replicate max_terms 0) (ends_from 0 (found_lists s ats sizes t)) ends t
 
-pub gathering-start : (s ats sizes : List ℕ) → Gathering s ats sizes 0 0 (replicate maxTerms 0) none
-gathering-start s ats sizes = record {
+pub gathering_start : (s ats sizes : List ℕ) → Gathering s ats sizes 0 0 (replicate max_terms 0) none
+gathering_start s ats sizes = record {
   few = omega arith;
   laid = record { los = nothing; his = nothing; tops = nothing; counts = nothing; bodies = nothing };
   held = record { count = refl; whole = refl };
 }
   where
-    nothing : Stored (replicate maxBlocks 0) (replicate maxBlocks 0) 0 0 []
+    nothing : Stored (replicate max_blocks 0) (replicate max_blocks 0) 0 0 []
     nothing = record { past = refl; whole = refl }
 
 stored_more : (f : Block → ℕ) (l m o : List ℕ) (q r : ℕ) (bs cs ds : List Block) → ds ≡ bs ++ cs → Stored l m 0 q (map f bs) → Stored m o q r (map f cs) → Stored l o 0 r (map f ds)
-stored_more f l m o q r bs cs ds e h k = stored-as (sym (ap (λ (x : List Block). map f x) e ∙ map-append f bs cs)) (stored-append h k)
+stored_more f l m o q r bs cs ds e h k = stored_as (sym (ap (λ (x : List Block). map f x) e ∙ map-append f bs cs)) (stored-append h k)
 
 module _ (s ats sizes : List ℕ) (n t all : ℕ) (ends : List ℕ) (new : Five) (h : Gatherable s ats sizes n) (more : t < n) (g : Gathering s ats sizes t all ends new) where
-  size_few : get_or sizes t 0 ≤ perList
+  size_few : get_or sizes t 0 ≤ per_list
   size_few = split (ltb 0 (get_or sizes t 0)) (λ e. (h.ready t more (ltb-true _ _ e)).1.few) (λ e. omega (arith, ltb-false 0 (get_or sizes t 0) e))
 
-  place_is : (f : Block → ℕ) (l m : List ℕ) → Stored l m 0 all (map f (flat (foundLists s ats sizes t))) → all ≡ length (flat (foundLists s ats sizes t))
-  place_is f l m k = omega (arith, k.past, map-length f (flat (foundLists s ats sizes t)))
+  place_is : (f : Block → ℕ) (l m : List ℕ) → Stored l m 0 all (map f (flat (found_lists s ats sizes t))) → all ≡ length (flat (found_lists s ats sizes t))
+  place_is f l m k = omega (arith, k.past, map-length f (flat (found_lists s ats sizes t)))
 
-  pub gathering-layable : Layable s (get_or ats t 0) (get_or sizes t 0) all new
-  gathering-layable = record {
+  pub gathering_layable : Layable s (get_or ats t 0) (get_or sizes t 0) all new
+  gathering_layable = record {
     ready = h.ready t more;
     small = h.small;
     room = omega (arith, place_is least none.los new.los g.laid.los, g.few, size_few, h.terms);
@@ -167,17 +167,17 @@ module _ (s ats sizes : List ℕ) (n t all : ℕ) (ends : List ℕ) (new : Five)
     bodies = stored-length g.laid.bodies;
   }
 
-  pub gathering-turn : (r : ℕ) (next : Five) → Lays (blocksAt s (get_or ats t 0) (get_or sizes t 0)) all r new next → Gathering s ats sizes (t + 1) r (set ends t r) next
-  gathering-turn r next k =
-      let ls = foundLists s ats sizes t in
-      let bs = blocksAt s (get_or ats t 0) (get_or sizes t 0) in
+  pub gathering_turn : (r : ℕ) (next : Five) → Lays (blocks_at s (get_or ats t 0) (get_or sizes t 0)) all r new next → Gathering s ats sizes (t + 1) r (set ends t r) next
+  gathering_turn r next k =
+      let ls = found_lists s ats sizes t in
+      let bs = blocks_at s (get_or ats t 0) (get_or sizes t 0) in
       let e : flat (ls ++ (bs ∷ [])) ≡ flat ls ++ bs = flat-more ls bs in
       let p : r ≡ length (flat ls ++ bs) = omega (arith, place_is least none.los new.los g.laid.los, k.los.past, map-length least bs, length-append (flat ls) bs) in
-      let many : length (flat (ls ++ (bs ∷ []))) ≤ perList * (t + 1) = omega (arith, ap length e, length-append (flat ls) bs, blocks-length s (get_or ats t 0) (get_or sizes t 0), g.few, size_few) in
-      let size : length ends ≡ maxTerms = omega (arith, ap length g.held.whole, length-append (endsFrom 0 ls) (drop t (replicate maxTerms 0)), length-drop t (replicate {A = ℕ} maxTerms 0), g.held.count, h.terms) in
-      let q : endsFrom 0 (ls ++ (bs ∷ [])) ≡ endsFrom 0 ls ++ (r ∷ []) = ends_more 0 ls bs ∙ ap (λ (x : ℕ). endsFrom 0 ls ++ (x ∷ [])) (omega (arith, p)) in
-      let held : Holds (replicate maxTerms 0) (endsFrom 0 (ls ++ (bs ∷ []))) (set ends t r) (t + 1) =
-      rw q (holds_more (replicate maxTerms 0) (endsFrom 0 ls) ends t r (omega (arith, h.terms)) g.held) in
+      let many : length (flat (ls ++ (bs ∷ []))) ≤ per_list * (t + 1) = omega (arith, ap length e, length-append (flat ls) bs, blocks-length s (get_or ats t 0) (get_or sizes t 0), g.few, size_few) in
+      let size : length ends ≡ max_terms = omega (arith, ap length g.held.whole, length-append (ends_from 0 ls) (drop t (replicate max_terms 0)), length-drop t (replicate {A = ℕ} max_terms 0), g.held.count, h.terms) in
+      let q : ends_from 0 (ls ++ (bs ∷ [])) ≡ ends_from 0 ls ++ (r ∷ []) = ends_more 0 ls bs ∙ ap (λ (x : ℕ). ends_from 0 ls ++ (x ∷ [])) (omega (arith, p)) in
+      let held : Holds (replicate max_terms 0) (ends_from 0 (ls ++ (bs ∷ []))) (set ends t r) (t + 1) =
+      rw q (holds_more (replicate max_terms 0) (ends_from 0 ls) ends t r (omega (arith, h.terms)) g.held) in
       rw (add-one t)
       (record {
         few = rw (add-one t) at many;
@@ -191,19 +191,19 @@ module _ (s ats sizes : List ℕ) (n t all : ℕ) (ends : List ℕ) (new : Five)
         held = rw (add-one t) at held;
       })
 
-lists_length : (s ats sizes : List ℕ) (n : ℕ) → length (foundLists s ats sizes n) ≡ n
+lists_length : (s ats sizes : List ℕ) (n : ℕ) → length (found_lists s ats sizes n) ≡ n
 lists_length s ats sizes zero = refl
 lists_length s ats sizes (suc n) =
-    length-append (foundLists s ats sizes n) (blocksAt s (get_or ats n 0) (get_or sizes n 0) ∷ []) ∙ omega (arith, lists_length s ats sizes n)
+    length-append (found_lists s ats sizes n) (blocks_at s (get_or ats n 0) (get_or sizes n 0) ∷ []) ∙ omega (arith, lists_length s ats sizes n)
 
-run-held : (f : Block → ℕ) (m : List ℕ) (r : ℕ) (bs : List Block) → length bs ≤ maxBlocks → Stored (replicate maxBlocks 0) m 0 r (map f bs) → Holds (replicate maxBlocks 0) (map f bs) m r
+run-held : (f : Block → ℕ) (m : List ℕ) (r : ℕ) (bs : List Block) → length bs ≤ max_blocks → Stored (replicate max_blocks 0) m 0 r (map f bs) → Holds (replicate max_blocks 0) (map f bs) m r
 run-held f m r bs h k = stored-holds (omega (arith, map-length f bs)) k
 
-pub gathering-end : (s ats sizes : List ℕ) (n all : ℕ) (ends : List ℕ) (new : Five) → n ≤ maxTerms → Gathering s ats sizes n all ends new →
-    Gathered (foundLists s ats sizes n) (record { n = all; ends = ends; los = new.los; his = new.his; tops = new.tops; counts = new.counts; bodies = new.bodies })
-gathering-end s ats sizes n all ends new h g =
-    let bs = flat (foundLists s ats sizes n) in
-    let few : length bs ≤ maxBlocks = omega (arith, g.few) in
+pub gathering_end : (s ats sizes : List ℕ) (n all : ℕ) (ends : List ℕ) (new : Five) → n ≤ max_terms → Gathering s ats sizes n all ends new →
+    Gathered (found_lists s ats sizes n) (record { n = all; ends = ends; los = new.los; his = new.his; tops = new.tops; counts = new.counts; bodies = new.bodies })
+gathering_end s ats sizes n all ends new h g =
+    let bs = flat (found_lists s ats sizes n) in
+    let few : length bs ≤ max_blocks = omega (arith, g.few) in
     record {
       ends = rw (lists_length s ats sizes n) g.held;
       los = run-held least new.los all bs few g.laid.los;

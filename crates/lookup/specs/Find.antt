@@ -7,24 +7,24 @@ use Rattle.lookup.specs.declared.find.Shown.{Shown}
 use Rattle.lookup.specs.declared.find.Shown.TheVariants as shown
 
 -- the list of term t; "list .. not there: 12"
-abbrev pub findOf : ℕ → List Listing → Outcome Listing
-findOf t [] = refused 12 0
-findOf t (l ∷ ls) = cond (eqb l.place.term t) (done l) (findOf t ls)
+abbrev pub find_of : ℕ → List Listing → Outcome Listing
+find_of t [] = refused 12 0
+find_of t (l ∷ ls) = cond (eqb l.place.term t) (done l) (find_of t ls)
 
 unfoldable pub found : ℕ → List ℕ → Outcome Listing
-found t s = and_then (walk s) (λ ls. findOf t ls)
+found t s = and_then (walk s) (λ ls. find_of t ls)
 
 -- what is answered: the list's place, or the refusal
-abbrev pub shownOf : Outcome Listing → Shown
-shownOf (done l) = shown.List l.place
-shownOf (refused n o) = shown.Refused n o
+abbrev pub shown_of : Outcome Listing → Shown
+shown_of (done l) = shown.List l.place
+shown_of (refused n o) = shown.Refused n o
 
 -- what the answer is in the paper: the list's place, or the refusal's number and offset
-abbrev pub paperShown : Shown → Outcome Place
-paperShown (shown.List p) = done p
-paperShown (shown.Refused n o) = refused n o
+abbrev pub paper_shown : Shown → Outcome Place
+paper_shown (shown.List p) = done p
+paper_shown (shown.Refused n o) = refused n o
 
 -- what is known after one list more: the first of the term stays
-abbrev pub hereOr : Shown → ℕ → Place → Shown
-hereOr (shown.List q) t p = shown.List q
-hereOr (shown.Refused n o) t p = cond (eqb p.term t) (shown.List p) (shown.Refused n o)
+abbrev pub here_or : Shown → ℕ → Place → Shown
+here_or (shown.List q) t p = shown.List q
+here_or (shown.Refused n o) t p = cond (eqb p.term t) (shown.List p) (shown.Refused n o)

@@ -1,8 +1,8 @@
 -- The blocks of the lists that were found, list after list in the query's order, side by side in five runs. Assumes nothing.
 use Rattle.std.specs.Prelude.{ℕ, zero, suc, ◌+◌, ◌≤◌, ◌<◌, ◌≡◌, List, [], ◌∷◌, ◌++◌, map, length, get_or, replicate}
-use Rattle.model.specs.Limits.{perList, maxShelf, maxTerms}
+use Rattle.model.specs.Limits.{per_list, max_shelf, max_terms}
 use Rattle.model.specs.Runs.{Stored, Holds}
-use Rattle.shelf.specs.Walk.{Block, blocksAt}
+use Rattle.shelf.specs.Walk.{Block, blocks_at}
 use Rattle.shelf.specs.Answers.{ReadyAt}
 use Rattle.lookup.specs.declared.gather.Blocks.{Blocks}
 
@@ -23,8 +23,8 @@ abbrev pub tag_at : Block → ℕ
 tag_at b = b.body_at
 
 -- "terms 1 to 8" of "blocks per list 1 to 64"
-abbrev pub maxBlocks : ℕ
-maxBlocks = 512
+abbrev pub max_blocks : ℕ
+max_blocks = 512
 
 -- ---- one list laid into the runs
 
@@ -41,13 +41,13 @@ runs los his tops counts bodies = record { los = los; his = his; tops = tops; co
 -- a list that stands in a shelf of the size allowed, and room for its blocks from j on
 pub record Layable (s : List ℕ) (at n j : ℕ) (to : Five) : Type 0 where
   pub ready : 0 < n → ReadyAt s at n
-  pub small : length s ≤ maxShelf
-  pub room : j + n ≤ maxBlocks
-  pub los : length to.los ≡ maxBlocks
-  pub his : length to.his ≡ maxBlocks
-  pub tops : length to.tops ≡ maxBlocks
-  pub counts : length to.counts ≡ maxBlocks
-  pub bodies : length to.bodies ≡ maxBlocks
+  pub small : length s ≤ max_shelf
+  pub room : j + n ≤ max_blocks
+  pub los : length to.los ≡ max_blocks
+  pub his : length to.his ≡ max_blocks
+  pub tops : length to.tops ≡ max_blocks
+  pub counts : length to.counts ≡ max_blocks
+  pub bodies : length to.bodies ≡ max_blocks
 
 pub record Lays (bs : List Block) (j r : ℕ) (old new : Five) : Type 0 where
   pub los : Stored old.los new.los j r (map least bs)
@@ -59,14 +59,14 @@ pub record Lays (bs : List Block) (j r : ℕ) (old new : Five) : Type 0 where
 -- ---- all lists
 
 -- the first n lists, by where each begins and its block count
-abbrev pub foundLists : List ℕ → (ats counts : List ℕ) → ℕ → List (List Block)
-foundLists s ats counts zero = []
-foundLists s ats counts (suc t) = foundLists s ats counts t ++ (blocksAt s (get_or ats t 0) (get_or counts t 0) ∷ [])
+abbrev pub found_lists : List ℕ → (ats counts : List ℕ) → ℕ → List (List Block)
+found_lists s ats counts zero = []
+found_lists s ats counts (suc t) = found_lists s ats counts t ++ (blocks_at s (get_or ats t 0) (get_or counts t 0) ∷ [])
 
 -- each stands in a shelf of the size allowed, or has no blocks
 pub record Gatherable (s ats counts : List ℕ) (n : ℕ) : Type 0 where
-  pub terms : n ≤ maxTerms
-  pub small : length s ≤ maxShelf
+  pub terms : n ≤ max_terms
+  pub small : length s ≤ max_shelf
   pub ready : (t : ℕ) → t < n → 0 < get_or counts t 0 → ReadyAt s (get_or ats t 0) (get_or counts t 0)
 
 -- list after list
@@ -75,14 +75,14 @@ flat [] = []
 flat (bs ∷ ls) = bs ++ flat ls
 
 -- where each list ends, from the place k on
-abbrev pub endsFrom : ℕ → List (List Block) → List ℕ
-endsFrom k [] = []
-endsFrom k (bs ∷ ls) = (k + length bs) ∷ endsFrom (k + length bs) ls
+abbrev pub ends_from : ℕ → List (List Block) → List ℕ
+ends_from k [] = []
+ends_from k (bs ∷ ls) = (k + length bs) ∷ ends_from (k + length bs) ls
 
 pub record Gathered (ls : List (List Block)) (r : Blocks) : Type 0 where
-  pub ends : Holds (replicate maxTerms 0) (endsFrom 0 ls) r.ends (length ls)
-  pub los : Holds (replicate maxBlocks 0) (map least (flat ls)) r.los r.n
-  pub his : Holds (replicate maxBlocks 0) (map greatest (flat ls)) r.his r.n
-  pub tops : Holds (replicate maxBlocks 0) (map top (flat ls)) r.tops r.n
-  pub counts : Holds (replicate maxBlocks 0) (map count (flat ls)) r.counts r.n
-  pub bodies : Holds (replicate maxBlocks 0) (map tag_at (flat ls)) r.bodies r.n
+  pub ends : Holds (replicate max_terms 0) (ends_from 0 ls) r.ends (length ls)
+  pub los : Holds (replicate max_blocks 0) (map least (flat ls)) r.los r.n
+  pub his : Holds (replicate max_blocks 0) (map greatest (flat ls)) r.his r.n
+  pub tops : Holds (replicate max_blocks 0) (map top (flat ls)) r.tops r.n
+  pub counts : Holds (replicate max_blocks 0) (map count (flat ls)) r.counts r.n
+  pub bodies : Holds (replicate max_blocks 0) (map tag_at (flat ls)) r.bodies r.n

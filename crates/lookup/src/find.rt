@@ -1,7 +1,7 @@
 // A list by its term, and its blocks as they stand in the shelf.
 ghost use Rattle.std.specs.Prelude.{◌≡◌};
-ghost use Rattle.lookup.specs.Find.{hereOr, shownOf, found};
-ghost use Rattle.lookup.specs.Show.{hasBlock, part_at, summaryShown, bodyShown};
+ghost use Rattle.lookup.specs.Find.{here_or, shown_of, found};
+ghost use Rattle.lookup.specs.Show.{has_block, part_at, summary_shown, body_shown};
 
 use block::summary::Summary;
 use shelf::walk::{Place, PlaceRead, Walk, WalkStep};
@@ -18,7 +18,7 @@ pub enum Shown {
 
 // The list that is known, or else this one if it is the term's.
 fn here_or(known: Shown, term: u32, list: Place) -> Shown
-    ensures { result ≡ hereOr known term list }
+    ensures { result ≡ here_or known term list }
 {
     match known {
         Shown::List(p) => Shown::List(p),
@@ -33,7 +33,7 @@ fn here_or(known: Shown, term: u32, list: Place) -> Shown
 
 // The list of a term: faults 6 and 7 first, then 12 where there is none.
 pub fn find_list(s: &[u8], term: u32) -> Shown
-    ensures { result ≡ shownOf (found term s.now) }
+    ensures { result ≡ shown_of (found term s.now) }
 {
     let mut w = Walk::new();
     let mut known = Shown::Refused(12, 0);
@@ -71,7 +71,7 @@ pub enum BodyShown {
 
 // Whether a list has a block `j`, and the shelf has room for its header and its summaries.
 fn has_block(s: &[u8], list: Place, j: usize) -> bool
-    ensures { result ≡ hasBlock s.now list j }
+    ensures { result ≡ has_block s.now list j }
 {
     let count = list.count as usize;
     let room = 8 + 12 * count;
@@ -86,7 +86,7 @@ fn has_block(s: &[u8], list: Place, j: usize) -> bool
 
 // The summary of block `j` of a list shown in place.
 pub fn summary_shown(s: &[u8], shown: Shown, j: usize) -> SummaryShown
-    ensures { result ≡ summaryShown s.now shown j }
+    ensures { result ≡ summary_shown s.now shown j }
 {
     match shown {
         Shown::List(p) => {
@@ -113,7 +113,7 @@ fn part_at(s: &[u8], at: usize) -> BodyShown
 
 // The body of block `j` of a list shown in place: it stands past the bodies before it.
 pub fn body_shown(s: &[u8], shown: Shown, j: usize) -> BodyShown
-    ensures { result ≡ bodyShown s.now shown j }
+    ensures { result ≡ body_shown s.now shown j }
 {
     match shown {
         Shown::List(p) => {

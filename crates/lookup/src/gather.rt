@@ -1,8 +1,8 @@
 // What a search takes from a shelf: the lists of its terms, found in one walk, and their blocks.
 ghost use Rattle.std.specs.Prelude.{◌≡◌, ◌≤◌, length};
-ghost use Rattle.shelf.specs.Walk.{blocksAt};
+ghost use Rattle.shelf.specs.Walk.{blocks_at};
 ghost use Rattle.lookup.specs.Gather.{Notes, Finds};
-ghost use Rattle.lookup.specs.Table.{runs, Layable, Lays, foundLists, Gatherable, Gathered};
+ghost use Rattle.lookup.specs.Table.{runs, Layable, Lays, found_lists, Gatherable, Gathered};
 
 use shelf::blocks::{BlockStep, Reading};
 use shelf::check::Checked;
@@ -100,7 +100,7 @@ fn lay_list<'a>(
     bodies: &'a mut [u32; 512],
 ) -> usize
     requires { Layable s.now at count j (runs los.old his.old tops.old counts.old bodies.old) }
-    ensures { Lays (blocksAt s.now at count) j result (runs los.old his.old tops.old counts.old bodies.old) (runs los.new his.new tops.new counts.new bodies.new) }
+    ensures { Lays (blocks_at s.now at count) j result (runs los.old his.old tops.old counts.old bodies.old) (runs los.new his.new tops.new counts.new bodies.new) }
 {
     if count == 0 {
         return j;
@@ -133,7 +133,7 @@ fn lay_list<'a>(
 // The blocks of the first `n` lists that were found.
 pub fn gather(s: &[u8], found: Found, n: usize) -> Blocks
     requires { Gatherable s.now found.ats found.counts n }
-    ensures { Gathered (foundLists s.now found.ats found.counts n) result }
+    ensures { Gathered (found_lists s.now found.ats found.counts n) result }
 {
     let ats = found.ats;
     let sizes = found.counts;

@@ -23,22 +23,22 @@ pub and-true : (a b : Bool) → (a && b) ≡ true → (a ≡ true) × (b ≡ tru
 and-true true b e = (refl, e)
 and-true false b e = absurd (false≢true e)
 
-pub or-true : (a : Bool) → (a || true) ≡ true
-or-true true = refl
-or-true false = refl
+pub or_true : (a : Bool) → (a || true) ≡ true
+or_true true = refl
+or_true false = refl
 
-pub or-false : (a : Bool) → (a || false) ≡ a
-or-false true = refl
-or-false false = refl
+pub or_false : (a : Bool) → (a || false) ≡ a
+or_false true = refl
+or_false false = refl
 
 pub or_swap : (a b c : Bool) → (a || (b || c)) ≡ (b || (a || c))
 or_swap true true c = refl
 or_swap true false c = refl
 or_swap false b c = refl
 
-pub or-twice : (a b : Bool) → (a || b) ≡ (a || (a || b))
-or-twice true b = refl
-or-twice false b = refl
+pub or_twice : (a b : Bool) → (a || b) ≡ (a || (a || b))
+or_twice true b = refl
+or_twice false b = refl
 
 pub or_assoc : (a b c : Bool) → ((a || b) || c) ≡ (a || (b || c))
 or_assoc true b c = refl
@@ -54,15 +54,15 @@ and-turn true false c = refl
 and-turn false true c = refl
 and-turn false false c = refl
 
-pub and-swap : (a b c : Bool) → (a && (b && c)) ≡ (b && (a && c))
-and-swap true true c = refl
-and-swap true false c = refl
-and-swap false true c = refl
-and-swap false false c = refl
+pub and_swap : (a b c : Bool) → (a && (b && c)) ≡ (b && (a && c))
+and_swap true true c = refl
+and_swap true false c = refl
+and_swap false true c = refl
+and_swap false false c = refl
 
 pub or_comm : (a b : Bool) → (a || b) ≡ (b || a)
-or_comm true b = sym (or-true b)
-or_comm false b = sym (or-false b)
+or_comm true b = sym (or_true b)
+or_comm false b = sym (or_false b)
 
 -- functions that agree everywhere have the same images
 pub map_same : {A B : Type 0} (f g : A → B) (xs : List A) → ((x : A) → f x ≡ g x) → map f xs ≡ map g xs
@@ -71,35 +71,35 @@ map_same f g (x ∷ xs) h = cc (h x, map_same f g xs h)
 
 module _ {A : Type 0} where
   -- what holds of each element holds of the one at a place
-  pub All-at : (P : A → Type 0) (xs : List A) (none : A) (i : ℕ) → All P xs → i < length xs → P (get_or xs i none)
-  All-at P [] none i all l = absurd (omega arith)
-  All-at P (x ∷ xs) none zero all l = all.0
-  All-at P (x ∷ xs) none (suc i) all l = All-at P xs none i all.1 (omega arith)
+  pub All_at : (P : A → Type 0) (xs : List A) (none : A) (i : ℕ) → All P xs → i < length xs → P (get_or xs i none)
+  All_at P [] none i all l = absurd (omega arith)
+  All_at P (x ∷ xs) none zero all l = all.0
+  All_at P (x ∷ xs) none (suc i) all l = All_at P xs none i all.1 (omega arith)
 
-  pub All-map : {P Q : A → Type 0} (xs : List A) → ((x : A) → P x → Q x) → All P xs → All Q xs
-  All-map [] f all = tt
-  All-map (x ∷ xs) f all = (f x all.0, All-map xs f all.1)
+  pub All_map : {P Q : A → Type 0} (xs : List A) → ((x : A) → P x → Q x) → All P xs → All Q xs
+  All_map [] f all = tt
+  All_map (x ∷ xs) f all = (f x all.0, All_map xs f all.1)
 
-  pub All-both : {P Q R : A → Type 0} (xs : List A) → ((x : A) → P x → Q x → R x) → All P xs → All Q xs → All R xs
-  All-both [] f p q = tt
-  All-both (x ∷ xs) f p q = (f x p.0 q.0, All-both xs f p.1 q.1)
+  pub All_both : {P Q R : A → Type 0} (xs : List A) → ((x : A) → P x → Q x → R x) → All P xs → All Q xs → All R xs
+  All_both [] f p q = tt
+  All_both (x ∷ xs) f p q = (f x p.0 q.0, All_both xs f p.1 q.1)
 
-  pub All-front : (P : A → Type 0) (xs ys : List A) → All P (xs ++ ys) → All P xs
-  All-front P [] ys all = tt
-  All-front P (x ∷ xs) ys all = (all.0, All-front P xs ys all.1)
+  pub All_front : (P : A → Type 0) (xs ys : List A) → All P (xs ++ ys) → All P xs
+  All_front P [] ys all = tt
+  All_front P (x ∷ xs) ys all = (all.0, All_front P xs ys all.1)
 
-  pub All-rest : (P : A → Type 0) (xs ys : List A) → All P (xs ++ ys) → All P ys
-  All-rest P [] ys all = all
-  All-rest P (x ∷ xs) ys all = All-rest P xs ys all.1
+  pub All_rest : (P : A → Type 0) (xs ys : List A) → All P (xs ++ ys) → All P ys
+  All_rest P [] ys all = all
+  All_rest P (x ∷ xs) ys all = All_rest P xs ys all.1
 
-  pub All-append : (P : A → Type 0) (xs ys : List A) → All P xs → All P ys → All P (xs ++ ys)
-  All-append P [] ys p q = q
-  All-append P (x ∷ xs) ys p q = (p.0, All-append P xs ys p.1 q)
+  pub All_append : (P : A → Type 0) (xs ys : List A) → All P xs → All P ys → All P (xs ++ ys)
+  All_append P [] ys p q = q
+  All_append P (x ∷ xs) ys p q = (p.0, All_append P xs ys p.1 q)
 
-  pub All-take : (P : A → Type 0) (k : ℕ) (xs : List A) → All P xs → All P (take k xs)
-  All-take P zero xs all = tt
-  All-take P (suc k) [] all = tt
-  All-take P (suc k) (x ∷ xs) all = (all.0, All-take P k xs all.1)
+  pub All_take : (P : A → Type 0) (k : ℕ) (xs : List A) → All P xs → All P (take k xs)
+  All_take P zero xs all = tt
+  All_take P (suc k) [] all = tt
+  All_take P (suc k) (x ∷ xs) all = (all.0, All_take P k xs all.1)
 
   pub map-take : (f : A → ℕ) (k : ℕ) (xs : List A) → map f (take k xs) ≡ take k (map f xs)
   map-take f zero xs = refl
@@ -111,27 +111,27 @@ module _ {A : Type 0} where
   map-length f (x ∷ xs) = ap suc (map-length f xs)
 
   -- what bounds each number bounds the number at any place, where 0 stands past the end
-  pub getD-bound : (f : A → ℕ) (m i : ℕ) (xs : List A) → All (λ x. f x ≤ m) xs → get_or (map f xs) i 0 ≤ m
-  getD-bound f m i [] all = omega arith
-  getD-bound f m zero (x ∷ xs) all = all.0
-  getD-bound f m (suc i) (x ∷ xs) all = getD-bound f m i xs all.1
+  pub get_d_bound : (f : A → ℕ) (m i : ℕ) (xs : List A) → All (λ x. f x ≤ m) xs → get_or (map f xs) i 0 ≤ m
+  get_d_bound f m i [] all = omega arith
+  get_d_bound f m zero (x ∷ xs) all = all.0
+  get_d_bound f m (suc i) (x ∷ xs) all = get_d_bound f m i xs all.1
 
 -- what holds of each number passed, and of the next
-pub up-to-next : (P : ℕ → Type 0) (from i : ℕ) → ((j : ℕ) → from ≤ j → j < i → P j) → P i → (j : ℕ) → from ≤ j → j < i + 1 → P j
-up-to-next P from i h p j a b =
+pub up_to_next : (P : ℕ → Type 0) (from i : ℕ) → ((j : ℕ) → from ≤ j → j < i → P j) → P i → (j : ℕ) → from ≤ j → j < i + 1 → P j
+up_to_next P from i h p j a b =
     split (eqb j i)
     (λ e. let q : j ≡ i = eqb-true j i e in subst⁻¹ P q p)
     (λ e. let w : (j ≡ i → ⊥) = eqb-false j i e in h j a (omega arith))
 
 -- what holds of each image
-pub All-image : {A B : Type 0} (f : A → B) (P : B → Type 0) (xs : List A) → All (λ x. P (f x)) xs → All P (map f xs)
-All-image f P [] all = tt
-All-image f P (x ∷ xs) all = (all.0, All-image f P xs all.1)
+pub All_image : {A B : Type 0} (f : A → B) (P : B → Type 0) (xs : List A) → All (λ x. P (f x)) xs → All P (map f xs)
+All_image f P [] all = tt
+All_image f P (x ∷ xs) all = (all.0, All_image f P xs all.1)
 
 -- ---- a run from a place on, in the code's `at + 1`
 
-pub rest-cons : (s : List ℕ) (at : ℕ) → at < length s → drop at s ≡ get_or s at 0 ∷ drop (at + 1) s
-rest-cons s at h = rw (add-one, drop-cons s at 0)
+pub rest_cons : (s : List ℕ) (at : ℕ) → at < length s → drop at s ≡ get_or s at 0 ∷ drop (at + 1) s
+rest_cons s at h = rw (add-one, drop-cons s at 0)
 
 pub rest-none : (s : List ℕ) (at : ℕ) → length s ≤ at → drop at s ≡ []
 rest-none s at h = drop_of_length-le s h
@@ -160,8 +160,8 @@ module _ {A : Type 0} (z : A) (f : A → A) where
   stay' (x ∷ xs) zero l e = ap {B = List A} (λ t. t ∷ xs) (sym e)
   stay' (x ∷ xs) (suc i) l e = ap {B = List A} (λ t. f x ∷ t) (stay' xs i (omega arith) e)
 
-  pub map-stay : (xs : List A) (i : ℕ) → i < length xs → f (get_or xs i z) ≡ get_or xs i z → map f (take i xs) ++ drop i xs ≡ map f (take (i + 1) xs) ++ drop (i + 1) xs
-  map-stay xs i l e = rw (add-one i) (stay' xs i l e)
+  pub map_stay : (xs : List A) (i : ℕ) → i < length xs → f (get_or xs i z) ≡ get_or xs i z → map f (take i xs) ++ drop i xs ≡ map f (take (i + 1) xs) ++ drop (i + 1) xs
+  map_stay xs i l e = rw (add-one i) (stay' xs i l e)
 
   pub map-here : (xs : List A) (i : ℕ) → i < length xs → get_or (map f (take i xs) ++ drop i xs) i z ≡ get_or xs i z
   map-here [] i l = absurd (omega arith)

@@ -37,8 +37,8 @@ stored-append {l} {m} {o} {at} {r} {q} {v} {w} s t =
     }
 
 -- the same bytes by another name
-pub stored-as : {l m : List ℕ} {at r : ℕ} {v w : List ℕ} → v ≡ w → Stored l m at r v → Stored l m at r w
-stored-as {l} {m} {at} {r} e s = subst (λ (x : List ℕ). Stored l m at r x) e s
+pub stored_as : {l m : List ℕ} {at r : ℕ} {v w : List ℕ} → v ≡ w → Stored l m at r v → Stored l m at r w
+stored_as {l} {m} {at} {r} e s = subst (λ (x : List ℕ). Stored l m at r x) e s
 
 pub stored-length : {l m : List ℕ} {at r : ℕ} {v : List ℕ} → Stored l m at r v → length m ≡ length l
 stored-length {l} {m} {at} {r} {v} s = ap length s.whole ∙ length-sets l at v
@@ -99,8 +99,8 @@ pub holds-none : (old : List ℕ) (n : ℕ) → n ≤ length old → Holds old (
 holds-none old n h = run_holds old (take n old) old n h refl refl
 
 -- one run after another, the later no shorter
-pub holds-trans : (old xs mid ys new : List ℕ) (m r : ℕ) → Holds old xs mid m → Holds mid ys new r → m ≤ r → Holds old ys new r
-holds-trans old xs mid ys new m r h k l = record {
+pub holds_trans : (old xs mid ys new : List ℕ) (m r : ℕ) → Holds old xs mid m → Holds mid ys new r → m ≤ r → Holds old ys new r
+holds_trans old xs mid ys new m r h k l = record {
   count = k.count;
   whole = k.whole ∙ ap {B = List ℕ} (λ t. ys ++ t) past;
 }

@@ -1,6 +1,6 @@
 -- A posting, and lists of them. Assumes nothing.
 use Rattle.std.specs.Prelude.{ℕ, ◌<◌, ◌≤◌, max, ◌≡◌, List, [], ◌∷◌, map, length}
-use Rattle.model.specs.Limits.{maxScore}
+use Rattle.model.specs.Limits.{max_score}
 use Rattle.model.specs.Runs.{All}
 
 -- a docid with its score
@@ -30,22 +30,22 @@ Rising n (p ∷ ps) = (n < p.doc) × Rising p.doc ps
 
 -- scores in range
 abbrev pub Scored : List Post → Type 0
-Scored ps = All (λ (p : Post). (0 < p.score) × (p.score ≤ maxScore)) ps
+Scored ps = All (λ (p : Post). (0 < p.score) × (p.score ≤ max_score)) ps
 
 -- the last docid, `n` where there is none
-abbrev pub lastDoc : ℕ → List Post → ℕ
-lastDoc n [] = n
-lastDoc n (p ∷ ps) = lastDoc p.doc ps
+abbrev pub last_doc : ℕ → List Post → ℕ
+last_doc n [] = n
+last_doc n (p ∷ ps) = last_doc p.doc ps
 
 -- the largest score, from `m` on
-abbrev pub topScore : ℕ → List Post → ℕ
-topScore m [] = m
-topScore m (p ∷ ps) = topScore (max m p.score) ps
+abbrev pub top_score : ℕ → List Post → ℕ
+top_score m [] = m
+top_score m (p ∷ ps) = top_score (max m p.score) ps
 
 -- the largest of some numbers, from `m` on
-abbrev pub maxFrom : ℕ → List ℕ → ℕ
-maxFrom m [] = m
-maxFrom m (x ∷ xs) = maxFrom (max m x) xs
+abbrev pub max_from : ℕ → List ℕ → ℕ
+max_from m [] = m
+max_from m (x ∷ xs) = max_from (max m x) xs
 
 -- two runs that belong together: as many scores as docids, which rise from above `n`
 pub record Even (n : ℕ) (ds ss : List ℕ) : Type 0 where

@@ -7,14 +7,14 @@ use lib.Dec.{eqb}
 use lib.ListN.{length, get_or}
 use borrow.Author.Tests.{eq-eqb, ne_eqb}
 use Rattle.model.proofs.Lists.{split}
-use Rattle.block.specs.Body.{rightBody, bodyRun}
+use Rattle.block.specs.Body.{right_body, body_run}
 use Rattle.block.specs.declared.summary.Summary.{Summary}
 use Rattle.scan.specs.Load.{Loads, head_of}
 use Rattle.scan.specs.declared.head.Head.{Head}
 use Rattle.scan.specs.declared.load.Loaded.{Loaded}
 use Rattle.scan.specs.declared.load.Loaded.TheVariants.{Stands, Wrong}
-use Rattle.opening.specs.Table.{gap, sumIn}
-use Rattle.opening.specs.Enter.{bytesIn, Enters}
+use Rattle.opening.specs.Table.{gap, sum_in}
+use Rattle.opening.specs.Enter.{bytes_in, Enters}
 use Rattle.opening.specs.declared.enter.Entry.{Entry}
 
 module _ (s los his tops counts bodies : List ℕ) (w t was m : ℕ) (h : Head) (ds ss : List ℕ) where
@@ -25,18 +25,18 @@ module _ (s los his tops counts bodies : List ℕ) (w t was m : ℕ) (h : Head) 
   enter-gap g n e q = record { answer = rw (ne_eqb m was n, eq-eqb m gap e, q); docids = rw (ne_eqb m was n, eq-eqb m gap e); scored = rw (ne_eqb m was n, eq-eqb m gap e) }
 
   -- a block loaded by a summary and a body that the code has worked out
-  module _ (n : m ≡ was → ⊥) (k : m ≡ gap → ⊥) (sum : Summary) (body ds' ss' : List ℕ) (r : Loaded) (f : sum ≡ sumIn s los his tops counts bodies m) (b : body ≡ bytesIn s bodies m)
+  module _ (n : m ≡ was → ⊥) (k : m ≡ gap → ⊥) (sum : Summary) (body ds' ss' : List ℕ) (r : Loaded) (f : sum ≡ sum_in s los his tops counts bodies m) (b : body ≡ bytes_in s bodies m)
       (l : Loads sum body w t ds ss ds' ss' r) where
-    loads : Loads (sumIn s los his tops counts bodies m) (bytesIn s bodies m) w t ds ss ds' ss' r
+    loads : Loads (sum_in s los his tops counts bodies m) (bytes_in s bodies m) w t ds ss ds' ss' r
     loads = rw (f, b) at l
 
-    pub enter-stands : (g : Head) → r ≡ Stands g → Enters s los his tops counts bodies w t was m h ds ss ds' ss' (record { head = g; fresh = 1; wrong = length s })
-    enter-stands g e =
-        let own = sumIn s los his tops counts bodies m in
+    pub enter_stands : (g : Head) → r ≡ Stands g → Enters s los his tops counts bodies w t was m h ds ss ds' ss' (record { head = g; fresh = 1; wrong = length s })
+    enter_stands g e =
+        let own = sum_in s los his tops counts bodies m in
         let a = loads.answer in
-        split (rightBody own (bytesIn s bodies m))
-        (λ x. let y : r ≡ Stands (head_of w t (bodyRun own (bytesIn s bodies m))) = rw x at a in
-        let z : g ≡ head_of w t (bodyRun own (bytesIn s bodies m)) = cc in
+        split (right_body own (bytes_in s bodies m))
+        (λ x. let y : r ≡ Stands (head_of w t (body_run own (bytes_in s bodies m))) = rw x at a in
+        let z : g ≡ head_of w t (body_run own (bytes_in s bodies m)) = cc in
         record {
           answer = rw (ne_eqb m was n, ne_eqb m gap k, x, z);
           docids = rw (ne_eqb m was n, ne_eqb m gap k) loads.docids;
@@ -46,10 +46,10 @@ module _ (s los his tops counts bodies : List ℕ) (w t was m : ℕ) (h : Head) 
 
     pub enter-wrong : (g : Head) → g ≡ head_of w t [] → r ≡ Wrong → Enters s los his tops counts bodies w t was m h ds ss ds' ss' (record { head = g; fresh = 1; wrong = get_or bodies m 0 })
     enter-wrong g q e =
-        let own = sumIn s los his tops counts bodies m in
+        let own = sum_in s los his tops counts bodies m in
         let a = loads.answer in
-        split (rightBody own (bytesIn s bodies m))
-        (λ x. let y : r ≡ Stands (head_of w t (bodyRun own (bytesIn s bodies m))) = rw x at a in let z : ◌≡◌ {A = ℕ} 0 1 = cc in absurd (omega arith))
+        split (right_body own (bytes_in s bodies m))
+        (λ x. let y : r ≡ Stands (head_of w t (body_run own (bytes_in s bodies m))) = rw x at a in let z : ◌≡◌ {A = ℕ} 0 1 = cc in absurd (omega arith))
         (λ x. record {
           answer = rw (ne_eqb m was n, ne_eqb m gap k, x, q);
           docids = rw (ne_eqb m was n, ne_eqb m gap k) loads.docids;
@@ -64,4 +64,4 @@ enter-few s los his tops counts bodies w t was m h ds ss ds' ss' r en =
     (λ e. rw e (omega arith))
     (λ e. split (eqb m gap)
     (λ g. rw (e, g) (omega arith))
-    (λ g. split (rightBody (sumIn s los his tops counts bodies m) (bytesIn s bodies m)) (λ x. rw (e, g, x) (omega arith)) (λ x. rw (e, g, x) (omega arith)))))
+    (λ g. split (right_body (sum_in s los his tops counts bodies m) (bytes_in s bodies m)) (λ x. rw (e, g, x) (omega arith)) (λ x. rw (e, g, x) (omega arith)))))

@@ -17,11 +17,11 @@ module _ {A : Type 0} where
   numbered-all P at (suc n) f h = (h f (omega arith) (omega arith), numbered-all P at n (suc f) (λ i a b. h i (omega arith) (omega arith)))
 
   -- one more, at the end
-  pub numbered-snoc : (at : ℕ → A) (n f : ℕ) → numbered at (suc n) f ≡ numbered at n f ++ (at (f + n) ∷ [])
-  numbered-snoc at zero f = let e : f + 0 ≡ f = omega arith in rw e
-  numbered-snoc at (suc n) f =
+  pub numbered_snoc : (at : ℕ → A) (n f : ℕ) → numbered at (suc n) f ≡ numbered at n f ++ (at (f + n) ∷ [])
+  numbered_snoc at zero f = let e : f + 0 ≡ f = omega arith in rw e
+  numbered_snoc at (suc n) f =
       let e : suc f + n ≡ f + suc n = omega arith in
-      ap {B = List A} (λ t. at f ∷ t) (rw e at (numbered-snoc at n (suc f)))
+      ap {B = List A} (λ t. at f ∷ t) (rw e at (numbered_snoc at n (suc f)))
 
   -- a list that has the same at each place
   pub numbered_is : (z : A) (at : ℕ → A) (xs : List A) (f : ℕ) → ((i : ℕ) → i < length xs → get_or xs i z ≡ at (f + i)) → xs ≡ numbered at (length xs) f

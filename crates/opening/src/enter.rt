@@ -1,6 +1,6 @@
 // An interval entered: each list keeps its place in the block that it reads already, or has the block that is met loaded, once.
 ghost use Rattle.std.specs.Prelude.{◌≡◌, cond, [], ◌+◌, ◌≤◌, ◌<◌, ltb, length, drop};
-ghost use Rattle.wire.specs.Field.{fieldLen, fieldValue};
+ghost use Rattle.wire.specs.Field.{field_len, field_value};
 ghost use Rattle.scan.specs.Heads.{roomy};
 ghost use Rattle.scan.specs.Load.{head_of};
 ghost use Rattle.opening.specs.Table.{gap};
@@ -12,8 +12,8 @@ use scan::load::Loaded;
 
 // The body whose tag stands at a place.
 fn body_at(s: &[u8], at: usize) -> &[u8]
-    requires { at + (3 + fieldLen (drop at s.now)) ≤ length s.now }
-    ensures { result.now ≡ fieldValue (drop at s.now) }
+    requires { at + (3 + field_len (drop at s.now)) ≤ length s.now }
+    ensures { result.now ≡ field_value (drop at s.now) }
 {
     let start = at + 3;
     let end = start + wire::number::be2(s, at + 1) as usize;

@@ -1,6 +1,6 @@
 // Which block of each list an interval meets. Intervals and blocks both rise, so each list has one place, which only moves on.
 ghost use Rattle.std.specs.Prelude.{◌≤◌, ◌≡◌, length};
-ghost use Rattle.opening.specs.Meet.{Reaches, metAt, Placed, AllMoved};
+ghost use Rattle.opening.specs.Meet.{Reaches, met_at, Placed, AllMoved};
 
 // Past every block: what a list meets in a gap.
 pub const GAP: usize = 512;
@@ -23,7 +23,7 @@ fn reach(his: &[u32], from: usize, end: usize, d: u32) -> usize
 // The block at that place, unless it begins above the docid.
 fn met(los: &[u32], j: usize, end: usize, d: u32) -> usize
     requires { end ≤ length los.now }
-    ensures { result ≡ metAt los.now end d j }
+    ensures { result ≡ met_at los.now end d j }
 {
     if end <= j {
         return GAP;

@@ -7,12 +7,12 @@ use Rattle.shelf.specs.Walk as shelf
 use Rattle.shelf.specs.Walk.{walk}
 use Rattle.query.specs.Query.{Question, asked}
 use Rattle.rank.specs.Rank.{Hit, sort, ranking, kth}
-use Rattle.rank.specs.Match.{anyList, hitsOf, within}
-use Rattle.prune.specs.Cut.{Listing, Interval, intervalsFrom, starts, intervals, lies, howMany, sees, ceilingAt, blockCount}
-use Rattle.prune.specs.Prune.{faultAt, termsAt, chosen, countMet}
+use Rattle.rank.specs.Match.{any_list, hits_of, within}
+use Rattle.prune.specs.Cut.{Listing, Interval, intervals_from, starts, intervals, lies, how_many, sees, ceiling_at, block_count}
+use Rattle.prune.specs.Prune.{fault_at, terms_at, chosen, count_met}
 use Rattle.pruned.specs.Pruned.{Answer, front}
-use Rattle.lines.specs.Text.{hitLines, intervalLines, block_line}
-use Rattle.promises.specs.Served.{listsFor, intervalCount}
+use Rattle.lines.specs.Text.{hit_lines, interval_lines, block_line}
+use Rattle.promises.specs.Served.{lists_for, interval_count}
 
 -- row i of the book's three runs
 abbrev pub first : Answer → ℕ → ℕ
@@ -27,7 +27,7 @@ mark a i = get_or a.marks i 0
 -- the intervals that the book shows: each from its first docid up to the next one's, the last up to 16,777,215
 abbrev pub between : List ℕ → List Interval
 between [] = []
-between (f ∷ fs) = intervalsFrom 16777215 f fs
+between (f ∷ fs) = intervals_from 16777215 f fs
 
 abbrev pub shown : Answer → List Interval
 shown a = between (take a.intervals a.firsts)
@@ -43,7 +43,7 @@ SkipRule k ceiling lower = (ceiling ≡ 0) ⊎ ((k ≤ length lower) × (ceiling
 -- what demand 3 says of the book of a search for k sheets among those that match
 pub record Booked (k : ℕ) (hits : List Hit) (a : Answer) : Type 0 where
   -- "every sheet number is in exactly one interval"
-  pub partition : (d : ℕ) → 1 ≤ d → d ≤ 16777215 → howMany d (shown a) ≡ 1
+  pub partition : (d : ℕ) → 1 ≤ d → d ≤ 16777215 → how_many d (shown a) ≡ 1
   -- "and an interval is skipped exactly when its ceiling is zero or k sheets with lower numbers match and the kth best of them scores at least the ceiling"
   pub skipped : (i : ℕ) → i < a.intervals → (mark a i ≡ 0) ↔ SkipRule k (ceiling a i) (below (first a i) hits)
   -- the others are opened
@@ -58,12 +58,12 @@ pub record CutBy (ls : List Listing) (score : ℕ → ℕ) (a : Answer) : Type 0
   pub smallest : (d e : ℕ) → d ≤ e → e ≤ 16777215 → ((z : ℕ) → d ≤ z → z ≤ e → sees ls z ≡ sees ls d) → All (λ (v : Interval). lies v d ≡ true → lies v e ≡ true) (shown a)
   pub neighbours : (i : ℕ) → i + 1 < a.intervals → sees ls (first a i) ≡ sees ls (first a (suc i)) → ⊥
   -- "The ceiling is the sum of weight times greatest score over the blocks met."
-  pub ceilings : (i : ℕ) → i < a.intervals → ceiling a i ≡ ceilingAt ls (first a i)
+  pub ceilings : (i : ℕ) → i < a.intervals → ceiling a i ≡ ceiling_at ls (first a i)
   -- no score is above the ceiling of its interval
-  pub under : All (λ (v : Interval). (d : ℕ) → lies v d ≡ true → score d ≤ ceilingAt ls v.first) (shown a)
+  pub under : All (λ (v : Interval). (d : ℕ) → lies v d ≡ true → score d ≤ ceiling_at ls v.first) (shown a)
   -- "the number of blocks met by an opened interval (each block once), the number of blocks in the query's lists"
-  pub opened : a.opened ≡ countMet (chosen (take a.intervals a.marks) (take a.intervals a.firsts)) ls
-  pub blocks : a.blocks ≡ blockCount ls
+  pub opened : a.opened ≡ count_met (chosen (take a.intervals a.marks) (take a.intervals a.firsts)) ls
+  pub blocks : a.blocks ≡ block_count ls
 
 -- ---- the rule by which intervals are opened, on any shelf
 
@@ -73,11 +73,11 @@ pub record Met : Type 0 where
   pub faults : List (Option ℕ)
   pub sheets : List (List Hit)
 
-abbrev pub sheetsIn : List Listing → Interval → List Hit
-sheetsIn ls v = within v.first v.last (hitsOf anyList (termsAt ls v.first))
+abbrev pub sheets_in : List Listing → Interval → List Hit
+sheets_in ls v = within v.first v.last (hits_of any_list (terms_at ls v.first))
 
-abbrev pub metOn : List Listing → Met
-metOn ls = record { ceilings = map (ceilingAt ls) (starts 16777215 ls); faults = map (faultAt ls) (starts 16777215 ls); sheets = map (sheetsIn ls) (intervals 16777215 ls) }
+abbrev pub met_on : List Listing → Met
+met_on ls = record { ceilings = map (ceiling_at ls) (starts 16777215 ls); faults = map (fault_at ls) (starts 16777215 ls); sheets = map (sheets_in ls) (intervals 16777215 ls) }
 
 -- "found so far": the sheets of the intervals that these marks say were opened
 abbrev pub found : (marks : List ℕ) (sheets : List (List Hit)) → List Hit
@@ -116,9 +116,9 @@ pub record Searching (q s : List ℕ) (fs cs ms : List ℕ) (a : Answer) : Type 
   pub faultless : asked q ≡ done question
   pub lists : List shelf.Listing
   pub walked : walk s ≡ done lists
-  pub intervals : a.intervals ≡ intervalCount question lists
-  pub firsts : a.firsts ≡ front (starts 16777215 (listsFor question lists)) fs
-  pub ceilings : a.ceilings ≡ front (metOn (listsFor question lists)).ceilings cs
+  pub intervals : a.intervals ≡ interval_count question lists
+  pub firsts : a.firsts ≡ front (starts 16777215 (lists_for question lists)) fs
+  pub ceilings : a.ceilings ≡ front (met_on (lists_for question lists)).ceilings cs
   pub row : List ℕ
   pub one_each : length row ≡ a.intervals
   pub marks : a.marks ≡ front row ms
@@ -127,17 +127,17 @@ pub record Searching (q s : List ℕ) (fs cs ms : List ℕ) (a : Answer) : Type 
 -- and the other counts are 0
 pub record Stopping (q s : List ℕ) (fs cs ms : List ℕ) (at : ℕ) (a : Answer) : Type 0 where
   pub search : Searching q s fs cs ms a
-  pub stopped : Stopped search.question.k (metOn (listsFor search.question search.lists)) at search.row
+  pub stopped : Stopped search.question.k (met_on (lists_for search.question search.lists)) at search.row
   pub opened : a.opened ≡ 0
   pub blocks : a.blocks ≡ 0
 
 -- one that came to its end: "A bad body in a block never opened is not reported by the pruned search; its answer is then what the rule above gives."
 pub record Ending (q s : List ℕ) (fs cs ms : List ℕ) (hs : List Hit) (a : Answer) : Type 0 where
   pub search : Searching q s fs cs ms a
-  pub passed : ByRule search.question.k (metOn (listsFor search.question search.lists)) search.row
-  pub hits : hs ≡ ranking search.question.k (found search.row (metOn (listsFor search.question search.lists)).sheets)
-  pub opened : a.opened ≡ countMet (chosen search.row (starts 16777215 (listsFor search.question search.lists))) (listsFor search.question search.lists)
-  pub blocks : a.blocks ≡ blockCount (listsFor search.question search.lists)
+  pub passed : ByRule search.question.k (met_on (lists_for search.question search.lists)) search.row
+  pub hits : hs ≡ ranking search.question.k (found search.row (met_on (lists_for search.question search.lists)).sheets)
+  pub opened : a.opened ≡ count_met (chosen search.row (starts 16777215 (lists_for search.question search.lists))) (lists_for search.question search.lists)
+  pub blocks : a.blocks ≡ block_count (lists_for search.question search.lists)
 
 -- ---- what is printed of an answer
 
@@ -146,5 +146,5 @@ pub record PrintedAs (text : List ℕ) (a : Answer) : Type 0 where
   pub hits : List Hit
   pub answered : a.outcome ≡ done hits
   pub lines : text
-      ≡ hitLines 1 hits
-      ++ (intervalLines 16777215 (take a.intervals a.firsts) (take a.intervals a.ceilings) (take a.intervals a.marks) ++ block_line a.opened a.blocks)
+      ≡ hit_lines 1 hits
+      ++ (interval_lines 16777215 (take a.intervals a.firsts) (take a.intervals a.ceilings) (take a.intervals a.marks) ++ block_line a.opened a.blocks)

@@ -7,7 +7,7 @@ use Rattle.model.specs.Post.{post}
 use Rattle.model.specs.Runs.{All}
 use Rattle.shelf.specs.Walk.{lists, walk}
 use Rattle.shelf.specs.Check.{judged, checked}
-use Rattle.list.specs.Write.{Word, writing, writeList}
+use Rattle.list.specs.Write.{Word, writing, write_list}
 use Rattle.change.specs.Edits.{Edit, Set, Clear, Withdraw}
 use Rattle.change.specs.Bytes.{Piece, joined, within, edited}
 use Rattle.query.specs.Query.{asked}
@@ -37,7 +37,7 @@ up_from d (suc n) = d ∷ up_from (d + 1) n
 
 -- postings written as the list of term 7, with room for any shelf: the bytes
 abbrev pub written : (ds ss : List ℕ) → Outcome (List ℕ)
-written ds ss = writeList false 7 ds ss 1048576
+written ds ss = write_list false 7 ds ss 1048576
 
 -- one posting written
 abbrev one : (d w : ℕ) → Outcome ℕ
@@ -117,9 +117,9 @@ table =
 -- ---- what is too large to compute
 
 -- n lists of one posting each, of the terms t, t + 1, ..
-abbrev pub wordsFrom : (t n : ℕ) → List Word
-wordsFrom t zero = []
-wordsFrom t (suc n) = record { term = t; posts = post 1 1 ∷ []; strip = false } ∷ wordsFrom (t + 1) n
+abbrev pub words_from : (t n : ℕ) → List Word
+words_from t zero = []
+words_from t (suc n) = record { term = t; posts = post 1 1 ∷ []; strip = false } ∷ words_from (t + 1) n
 
 -- "result would pass 6,400 postings, 1,024 lists or 1,048,576 bytes"
 pub record Bounded (xs : List Piece) : Type 0 where
@@ -130,11 +130,11 @@ pub record Bounded (xs : List Piece) : Type 0 where
 pub record Limits : Type 0 where
   pub rows : map (λ (r : Row). r.does) table ≡ map (λ (r : Row). r.says) table
   -- "postings per list: 1 to 6,400", which is 64 blocks of 100
-  pub postings-in : (n : ℕ) → 1 ≤ n → n ≤ 6400 → judged (and_then (written (up_from 1 n) (replicate n 1)) checked) ≡ done tt
+  pub postings_in : (n : ℕ) → 1 ≤ n → n ≤ 6400 → judged (and_then (written (up_from 1 n) (replicate n 1)) checked) ≡ done tt
   pub postings-out : (n : ℕ) → 6400 < n → written (up_from 1 n) (replicate n 1) ≡ refused 11 0
   -- "lists per shelf: 0 to 1,024": "1,025th list: its tag", each list having 25 bytes
-  pub lists-in : (n : ℕ) → n ≤ 1024 → judged (checked (writing (wordsFrom 0 n))) ≡ done tt
-  pub lists-out : (n : ℕ) → 1024 < n → n ≤ 41943 → checked (writing (wordsFrom 0 n)) ≡ refused 6 25600
+  pub lists-in : (n : ℕ) → n ≤ 1024 → judged (checked (writing (words_from 0 n))) ≡ done tt
+  pub lists-out : (n : ℕ) → 1024 < n → n ≤ 41943 → checked (writing (words_from 0 n)) ≡ refused 6 25600
   -- "bytes per shelf: 0 to 1,048,576": "shelf over 1,048,576 bytes (offset 0)"; any other is walked, list by list
   pub bytes-in : (s : List ℕ) → length s ≤ 1048576 → walk s ≡ lists 1024 0 0 s
   pub bytes-out : (s : List ℕ) → 1048576 < length s → walk s ≡ refused 6 0

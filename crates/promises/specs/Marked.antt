@@ -6,7 +6,7 @@ use Rattle.model.specs.Post.{post}
 use Rattle.shelf.specs.Walk.{Block, Listing}
 use Rattle.shelf.specs.Check.{judged, checked}
 use Rattle.change.specs.Edits.{Set}
-use Rattle.edit.specs.History.{Change, Try, shelfAfter}
+use Rattle.edit.specs.History.{Change, Try, shelf_after}
 use Rattle.rank.specs.Rank.{Hit}
 use Rattle.pruned.specs.Pruned.{Answer, searched}
 use Rattle.lines.specs.Text.{codes}
@@ -40,8 +40,8 @@ abbrev pub query : ℕ → List ℕ
 query k = hex "20 0001" ++ (k ∷ hex "21 0005 00000007 01 21 0005 00000009 02")
 
 -- "Shelf, 73 bytes"; the second summary's score is 1, and in M5 and M6 it is 3
-abbrev pub shelfWith : ℕ → List ℕ
-shelfWith score =
+abbrev pub shelf_with : ℕ → List ℕ
+shelf_with score =
     hex "010005 00000007 02  020009 000002 000004 0005 02  020009 000009 000009 00" ++ (score ∷ hex "01  030005 0005 01 0003  030002 0001")
     ++ hex "010005 00000009 01  020009 000004 000006 0004 02  030005 0004 01 0002"
 
@@ -66,17 +66,17 @@ abbrev set : (t d w : ℕ) → Try
 set t d w = record { act = Change (Set t d w); room = 1048576 }
 
 -- the greatest scores that the blocks of a sound shelf store
-abbrev topsIn : List Block → List ℕ
-topsIn [] = []
-topsIn (b ∷ bs) = b.sum.top ∷ topsIn bs
+abbrev tops_in : List Block → List ℕ
+tops_in [] = []
+tops_in (b ∷ bs) = b.sum.top ∷ tops_in bs
 
-abbrev topsOn : List Listing → List ℕ
-topsOn [] = []
-topsOn (l ∷ ls) = topsIn l.blocks ++ topsOn ls
+abbrev tops_on : List Listing → List ℕ
+tops_on [] = []
+tops_on (l ∷ ls) = tops_in l.blocks ++ tops_on ls
 
 abbrev tops_of : Outcome (List Listing) → List ℕ
 tops_of (refused n at) = []
-tops_of (done ls) = topsOn ls
+tops_of (done ls) = tops_on ls
 
 -- ---- the table
 
@@ -111,20 +111,20 @@ seven o opened blocks nine marks = record {
 abbrev pub table : List Row
 table =
     -- "M1 the search above."
-    row "M1" (gives (search (query 1) (shelfWith 1))) (gives (seven (done (post 4 11 ∷ [])) 2 3 1 (0 ∷ 1 ∷ 1 ∷ 0 ∷ 0 ∷ 0 ∷ 0 ∷ [])))
-    ∷ row "M1, printed" (prints (reported (query 1 ++ shelfWith 1)))
+    row "M1" (gives (search (query 1) (shelf_with 1))) (gives (seven (done (post 4 11 ∷ [])) 2 3 1 (0 ∷ 1 ∷ 1 ∷ 0 ∷ 0 ∷ 0 ∷ 0 ∷ [])))
+    ∷ row "M1, printed" (prints (reported (query 1 ++ shelf_with 1)))
     (prints (codes "H 1 4 11\nI 1 1 0 skipped\nI 2 3 5 opened\nI 4 4 13 opened\nI 5 6 8 skipped\nI 7 8 0 skipped\nI 9 9 1 skipped\nI 10 16777215 0 skipped\nB 2 3\n"))
     -- "M2 k=2: hits 4:11, 2:5; [5,6] opened."
-    ∷ row "M2" (gives (search (query 2) (shelfWith 1))) (gives (seven (done (post 4 11 ∷ post 2 5 ∷ [])) 2 3 1 (0 ∷ 1 ∷ 1 ∷ 1 ∷ 0 ∷ 0 ∷ 0 ∷ [])))
+    ∷ row "M2" (gives (search (query 2) (shelf_with 1))) (gives (seven (done (post 4 11 ∷ post 2 5 ∷ [])) 2 3 1 (0 ∷ 1 ∷ 1 ∷ 1 ∷ 0 ∷ 0 ∷ 0 ∷ [])))
     -- "M3 k=3: adds 6:4; [9,9] skipped."
-    ∷ row "M3" (gives (search (query 3) (shelfWith 1))) (gives (seven (done (post 4 11 ∷ post 2 5 ∷ post 6 4 ∷ [])) 2 3 1 (0 ∷ 1 ∷ 1 ∷ 1 ∷ 0 ∷ 0 ∷ 0 ∷ [])))
+    ∷ row "M3" (gives (search (query 3) (shelf_with 1))) (gives (seven (done (post 4 11 ∷ post 2 5 ∷ post 6 4 ∷ [])) 2 3 1 (0 ∷ 1 ∷ 1 ∷ 1 ∷ 0 ∷ 0 ∷ 0 ∷ [])))
     -- "M4 k=5: four hits, last 9:1."
-    ∷ row "M4" (gives (search (query 5) (shelfWith 1))) (gives (seven (done (post 4 11 ∷ post 2 5 ∷ post 6 4 ∷ post 9 1 ∷ [])) 3 3 1 (0 ∷ 1 ∷ 1 ∷ 1 ∷ 0 ∷ 1 ∷ 0 ∷ [])))
+    ∷ row "M4" (gives (search (query 5) (shelf_with 1))) (gives (seven (done (post 4 11 ∷ post 2 5 ∷ post 6 4 ∷ post 9 1 ∷ [])) 3 3 1 (0 ∷ 1 ∷ 1 ∷ 1 ∷ 0 ∷ 1 ∷ 0 ∷ [])))
     -- "M5 second summary's score made 3, k=1: same hits, checker says 8 at 40."
-    ∷ row "M5" (gives (search (query 1) (shelfWith 3))) (gives (seven (done (post 4 11 ∷ [])) 2 3 3 (0 ∷ 1 ∷ 1 ∷ 0 ∷ 0 ∷ 0 ∷ 0 ∷ [])))
-    ∷ row "M5, checked" (checks (judged (checked (shelfWith 3)))) (checks (refused 8 40))
+    ∷ row "M5" (gives (search (query 1) (shelf_with 3))) (gives (seven (done (post 4 11 ∷ [])) 2 3 3 (0 ∷ 1 ∷ 1 ∷ 0 ∷ 0 ∷ 0 ∷ 0 ∷ [])))
+    ∷ row "M5, checked" (checks (judged (checked (shelf_with 3)))) (checks (refused 8 40))
     -- "M6 the same, k=4: 8 at 40, marks 0 1 1 1 0 2 3."
-    ∷ row "M6" (gives (search (query 4) (shelfWith 3))) (gives (seven (refused 8 40) 0 0 3 (0 ∷ 1 ∷ 1 ∷ 1 ∷ 0 ∷ 2 ∷ 3 ∷ [])))
+    ∷ row "M6" (gives (search (query 4) (shelf_with 3))) (gives (seven (refused 8 40) 0 0 3 (0 ∷ 1 ∷ 1 ∷ 1 ∷ 0 ∷ 2 ∷ 3 ∷ [])))
     -- "M7 blocks {3:6} and {8:6}, weight 1, k=1: hit 3:6, one block of two."
     ∷ row "M7" (gives (search query7 shelf7)) (gives (record {
       outcome = done (post 3 6 ∷ []);
@@ -146,7 +146,7 @@ table =
       marks = 0 ∷ replicate 7 99;
     }))
     -- "M9 set (5,3,6), (5,8,9), (5,8,2): greatest score 6."
-    ∷ row "M9" (greatest (tops_of (checked (shelfAfter (set 5 3 6 ∷ set 5 8 9 ∷ set 5 8 2 ∷ []) [])))) (greatest (6 ∷ []))
+    ∷ row "M9" (greatest (tops_of (checked (shelf_after (set 5 3 6 ∷ set 5 8 9 ∷ set 5 8 2 ∷ []) [])))) (greatest (6 ∷ []))
     -- "M10 setting M1's five postings on an empty shelf: 59 bytes."
-    ∷ row "M10" (bytes (length (shelfAfter (set 7 2 5 ∷ set 7 4 3 ∷ set 7 9 1 ∷ set 9 4 4 ∷ set 9 6 2 ∷ []) []))) (bytes 59)
+    ∷ row "M10" (bytes (length (shelf_after (set 7 2 5 ∷ set 7 4 3 ∷ set 7 9 1 ∷ set 9 4 4 ∷ set 9 6 2 ∷ []) []))) (bytes 59)
     ∷ []

@@ -6,27 +6,27 @@ use Rattle.model.specs.Outcome.{Outcome, refused, done, and_then}
 use Rattle.model.specs.Post.{postings}
 use Rattle.model.specs.Runs.{All}
 use Rattle.wire.specs.Number.{num}
-use Rattle.shelf.specs.Walk.{Block, Listing, postsOf, walk}
-use Rattle.shelf.specs.Check.{badBody, badLists, judged}
+use Rattle.shelf.specs.Walk.{Block, Listing, posts_of, walk}
+use Rattle.shelf.specs.Check.{bad_body, bad_lists, judged}
 use Rattle.lookup.specs.Find.{found}
-use Rattle.lookup.specs.Gather.{termBlocks}
+use Rattle.lookup.specs.Gather.{term_blocks}
 use Rattle.lookup.specs.Show.{block_of}
 use Rattle.shelf.specs.declared.check.BadRead.{BadRead}
 use Rattle.shelf.specs.declared.check.BadRead.TheVariants.{BadAt, NoBad}
-use Rattle.list.specs.Write.{faultAt, listBytes}
+use Rattle.list.specs.Write.{fault_at, list_bytes}
 use Rattle.change.specs.Edits.{Edit}
 use Rattle.change.specs.Bytes.{pieces, joined, changed, in_range, there, within}
-use Rattle.convert.specs.Convert.{listed, turnedPieces}
-use Rattle.query.specs.Query.{Asked, termAt, termsIn, fieldCount, allRight, weighted, unrepeated}
+use Rattle.convert.specs.Convert.{listed, turned_pieces}
+use Rattle.query.specs.Query.{Asked, term_at, terms_in, field_count, all_right, weighted, unrepeated}
 use Rattle.query.specs.declared.fields.FieldsRead.{FieldsRead}
 use Rattle.query.specs.declared.fields.FieldsRead.TheVariants.{Terms, Wrong}
-use Rattle.rank.specs.Match.{anyList}
+use Rattle.rank.specs.Match.{any_list}
 use Rattle.prune.specs.Cut as prune
 use Rattle.prune.specs.Cut.{starts}
-use Rattle.prune.specs.Prune.{never, faultAll, pruned}
-use Rattle.exhaustive.specs.Lists.{listingsOf}
+use Rattle.prune.specs.Prune.{never, fault_all, pruned}
+use Rattle.exhaustive.specs.Lists.{listings_of}
 use Rattle.intervals.specs.Blocks.{room_for}
-use Rattle.report.specs.Report.{queryPart, shelfPart}
+use Rattle.report.specs.Report.{query_part, shelf_part}
 
 -- ---- the order
 
@@ -38,9 +38,9 @@ abbrev pub row : (applies : Bool) (number offset : ℕ) → Fault
 row applies n at = cond applies (refused n at) (done tt)
 
 -- the first that applies
-abbrev pub firstFault : List Fault → Fault
-firstFault [] = done tt
-firstFault (f ∷ fs) = and_then f (λ ok. firstFault fs)
+abbrev pub first_fault : List Fault → Fault
+first_fault [] = done tt
+first_fault (f ∷ fs) = and_then f (λ ok. first_fault fs)
 
 -- it applies, and none before it does
 pub record IsFirst (fs : List Fault) (n at : ℕ) : Type 0 where
@@ -57,36 +57,36 @@ Numbered P (done x) = Unit {0}
 -- ---- a query: 1, 2, 3, 4, 5
 
 -- its k and its terms, as far as its fields are right
-abbrev pub kIn : List ℕ → ℕ
-kIn q = num 1 (drop 3 q)
+abbrev pub k_in : List ℕ → ℕ
+k_in q = num 1 (drop 3 q)
 
 abbrev pub fields_of : FieldsRead → ℕ
 fields_of (Terms n) = n
 fields_of (Wrong at) = 0
 
-abbrev pub termsRead : List ℕ → FieldsRead → List Asked
-termsRead q r = termsIn (fields_of r) (drop 4 q)
+abbrev pub terms_read : List ℕ → FieldsRead → List Asked
+terms_read q r = terms_in (fields_of r) (drop 4 q)
 
-abbrev pub termsAsked : List ℕ → List Asked
-termsAsked q = termsRead q (fieldCount q)
+abbrev pub terms_asked : List ℕ → List Asked
+terms_asked q = terms_read q (field_count q)
 
-abbrev pub fieldsFaults : List ℕ → FieldsRead → List Fault
-fieldsFaults q r =
+abbrev pub fields_faults : List ℕ → FieldsRead → List Fault
+fields_faults q r =
     -- 1: "query fields wrong or cut short: first such field, or query length"
-    judged (allRight r)
+    judged (all_right r)
     -- 2: "k not 1 to 100: 0"
-    ∷ row (not (ltb 0 (kIn q) && leb (kIn q) 100)) 2 0
+    ∷ row (not (ltb 0 (k_in q) && leb (k_in q) 100)) 2 0
     -- 3: "no term, or more than 8: query length, or the ninth"
-    ∷ row (not (ltb 0 (length (termsRead q r)))) 3 (length q)
-    ∷ row (not (leb (length (termsRead q r)) 8)) 3 (termAt 8)
+    ∷ row (not (ltb 0 (length (terms_read q r)))) 3 (length q)
+    ∷ row (not (leb (length (terms_read q r)) 8)) 3 (term_at 8)
     -- 4: "weight 0: first such field"
-    ∷ weighted 0 (termsRead q r)
+    ∷ weighted 0 (terms_read q r)
     -- 5: "term twice: the second of the first pair to close"
-    ∷ unrepeated [] 0 (termsRead q r)
+    ∷ unrepeated [] 0 (terms_read q r)
     ∷ []
 
-abbrev pub queryFaults : List ℕ → List Fault
-queryFaults q = fieldsFaults q (fieldCount q)
+abbrev pub query_faults : List ℕ → List Fault
+query_faults q = fields_faults q (field_count q)
 
 -- ---- a shelf: 6/7, "found in one walk, first in byte order"; its lists where there is no such fault
 
@@ -94,92 +94,92 @@ abbrev pub lists_of : Outcome (List Listing) → List Listing
 lists_of (refused n at) = []
 lists_of (done ls) = ls
 
-abbrev pub walkFault : List ℕ → Fault
-walkFault s = judged (walk s)
+abbrev pub walk_fault : List ℕ → Fault
+walk_fault s = judged (walk s)
 
-abbrev pub listsOn : List ℕ → List Listing
-listsOn s = lists_of (walk s)
+abbrev pub lists_on : List ℕ → List Listing
+lists_on s = lists_of (walk s)
 
 -- 8: "wrong body: its tag"
-abbrev pub bodyFault : BadRead → Fault
-bodyFault NoBad = done tt
-bodyFault (BadAt at) = refused 8 at
+abbrev pub body_fault : BadRead → Fault
+body_fault NoBad = done tt
+body_fault (BadAt at) = refused 8 at
 
 -- ---- "Checker 6/7, 8."
-abbrev pub checkFaults : List ℕ → List Fault
-checkFaults s = walkFault s ∷ bodyFault (badLists (listsOn s)) ∷ []
+abbrev pub check_faults : List ℕ → List Fault
+check_faults s = walk_fault s ∷ body_fault (bad_lists (lists_on s)) ∷ []
 
 -- ---- "a list shown in place 6/7, 12"
-abbrev pub showFaults : (t : ℕ) → List ℕ → List Fault
-showFaults t s = walkFault s ∷ row (not (listed t (listsOn s))) 12 0 ∷ []
+abbrev pub show_faults : (t : ℕ) → List ℕ → List Fault
+show_faults t s = walk_fault s ∷ row (not (listed t (lists_on s))) 12 0 ∷ []
 
 -- and of its block j, "list, block or posting not there: 12"
-abbrev pub blockShown : (t : ℕ) → List ℕ → (j : ℕ) → Outcome Block
-blockShown t s j = and_then (found t s) (λ l. block_of l.blocks j)
+abbrev pub block_shown : (t : ℕ) → List ℕ → (j : ℕ) → Outcome Block
+block_shown t s j = and_then (found t s) (λ l. block_of l.blocks j)
 
-abbrev pub blockFaults : (t : ℕ) → List ℕ → (j : ℕ) → List Fault
-blockFaults t s j = walkFault s ∷ row (not (listed t (listsOn s))) 12 0 ∷ row (not (ltb j (length (termBlocks t (listsOn s))))) 12 0 ∷ []
+abbrev pub block_faults : (t : ℕ) → List ℕ → (j : ℕ) → List Fault
+block_faults t s j = walk_fault s ∷ row (not (listed t (lists_on s))) 12 0 ∷ row (not (ltb j (length (term_blocks t (lists_on s))))) 12 0 ∷ []
 
 -- ---- "List reading 6/7, 12, 8 (that list), 9", into two runs of d and w numbers
-abbrev pub readFaults : (t : ℕ) → List ℕ → (d w : ℕ) → List Fault
-readFaults t s d w =
-    walkFault s
-    ∷ row (not (listed t (listsOn s))) 12 0
-    ∷ bodyFault (badBody (termBlocks t (listsOn s)))
-    ∷ row (not (leb (length (postsOf (termBlocks t (listsOn s)))) (min d w))) 9 0
+abbrev pub read_faults : (t : ℕ) → List ℕ → (d w : ℕ) → List Fault
+read_faults t s d w =
+    walk_fault s
+    ∷ row (not (listed t (lists_on s))) 12 0
+    ∷ body_fault (bad_body (term_blocks t (lists_on s)))
+    ∷ row (not (leb (length (posts_of (term_blocks t (lists_on s)))) (min d w))) 9 0
     ∷ []
 
 -- ---- "Writing 11 (the longer run), 10 (unequal runs first), 9."
-abbrev pub writeFaults : (strip : Bool) (t : ℕ) (ds ss : List ℕ) (room : ℕ) → List Fault
-writeFaults strip t ds ss room =
+abbrev pub write_faults : (strip : Bool) (t : ℕ) (ds ss : List ℕ) (room : ℕ) → List Fault
+write_faults strip t ds ss room =
     row (ltb 6400 (max (length ds) (length ss))) 11 0
     ∷ row (not (eqb (length ds) (length ss))) 10 (min (length ds) (length ss))
     ∷ row (eqb (length ds) 0) 10 0
-    ∷ row (ltb (faultAt 0 (postings ds ss)) (length ds)) 10 (faultAt 0 (postings ds ss))
-    ∷ row (ltb room (length (listBytes strip t (postings ds ss)))) 9 0
+    ∷ row (ltb (fault_at 0 (postings ds ss)) (length ds)) 10 (fault_at 0 (postings ds ss))
+    ∷ row (ltb room (length (list_bytes strip t (postings ds ss)))) 9 0
     ∷ []
 
 -- ---- "Edits 10, 6/7, 8 (whole shelf), 12, 11, 9."
-abbrev pub editFaults : Edit → List ℕ → (room : ℕ) → List Fault
-editFaults e s room =
+abbrev pub edit_faults : Edit → List ℕ → (room : ℕ) → List Fault
+edit_faults e s room =
     row (not (in_range e)) 10 0
-    ∷ walkFault s
-    ∷ bodyFault (badLists (listsOn s))
-    ∷ row (not (there e (pieces s (listsOn s)))) 12 0
-    ∷ row (not (within (changed e (pieces s (listsOn s))))) 11 0
-    ∷ row (not (leb (length (joined (changed e (pieces s (listsOn s))))) room)) 9 0
+    ∷ walk_fault s
+    ∷ body_fault (bad_lists (lists_on s))
+    ∷ row (not (there e (pieces s (lists_on s)))) 12 0
+    ∷ row (not (within (changed e (pieces s (lists_on s))))) 11 0
+    ∷ row (not (leb (length (joined (changed e (pieces s (lists_on s))))) room)) 9 0
     ∷ []
 
 -- ---- "converter 6/7, 8 (whole shelf), 12, 9."
-abbrev pub convertFaults : (t : ℕ) → List ℕ → (room : ℕ) → List Fault
-convertFaults t s room =
-    walkFault s
-    ∷ bodyFault (badLists (listsOn s))
-    ∷ row (not (listed t (listsOn s))) 12 0
-    ∷ row (not (leb (length (joined (turnedPieces t s (listsOn s)))) room)) 9 0
+abbrev pub convert_faults : (t : ℕ) → List ℕ → (room : ℕ) → List Fault
+convert_faults t s room =
+    walk_fault s
+    ∷ body_fault (bad_lists (lists_on s))
+    ∷ row (not (listed t (lists_on s))) 12 0
+    ∷ row (not (leb (length (joined (turned_pieces t s (lists_on s)))) room)) 9 0
     ∷ []
 
 -- ---- "pruned search 1, 2, 3, 4, 5, then 6/7, 9, 8; exhaustive the same, checking all bodies of the query's lists"
 
-abbrev pub listsAsked : (q s : List ℕ) → List prune.Listing
-listsAsked q s = listingsOf (termsAsked q) (listsOn s)
+abbrev pub lists_asked : (q s : List ℕ) → List prune.Listing
+lists_asked q s = listings_of (terms_asked q) (lists_on s)
 
-abbrev pub faultHere : Option ℕ → Fault
-faultHere none = done tt
-faultHere (some at) = refused 8 at
+abbrev pub fault_here : Option ℕ → Fault
+fault_here none = done tt
+fault_here (some at) = refused 8 at
 
-abbrev pub rankFaults : (q s : List ℕ) (rows : ℕ) → List Fault
-rankFaults q s rows = queryFaults q ++ (walkFault s ∷ row (not (leb (kIn q) rows)) 9 0 ∷ faultHere (faultAll (listsAsked q s)) ∷ [])
+abbrev pub rank_faults : (q s : List ℕ) (rows : ℕ) → List Fault
+rank_faults q s rows = query_faults q ++ (walk_fault s ∷ row (not (leb (k_in q) rows)) 9 0 ∷ fault_here (fault_all (lists_asked q s)) ∷ [])
 
 -- 9: "hit rows are fewer than k, a book run is shorter than the interval count", where the book's runs have a, b and c rows; 8 by the bodies that the search meets
-abbrev pub searchFaults : (q s : List ℕ) (rows a b c : ℕ) → List Fault
-searchFaults q s rows a b c =
-    queryFaults q
-    ++ (walkFault s
-    ∷ row (not (leb (kIn q) rows && room_for (length (starts 16777215 (listsAsked q s))) a b c)) 9 0
-    ∷ judged (pruned anyList never 16777215 (kIn q) (listsAsked q s))
+abbrev pub search_faults : (q s : List ℕ) (rows a b c : ℕ) → List Fault
+search_faults q s rows a b c =
+    query_faults q
+    ++ (walk_fault s
+    ∷ row (not (leb (k_in q) rows && room_for (length (starts 16777215 (lists_asked q s))) a b c)) 9 0
+    ∷ judged (pruned any_list never 16777215 (k_in q) (lists_asked q s))
     ∷ [])
 
 -- ---- the search program: 13 "before all else", then what the search of its input's two parts refuses, with room for every answer
-abbrev pub programFaults : (input : List ℕ) → List Fault
-programFaults input = row (ltb 65536 (length input)) 13 0 ∷ searchFaults (queryPart input) (shelfPart input) 100 1025 1025 1025
+abbrev pub program_faults : (input : List ℕ) → List Fault
+program_faults input = row (ltb 65536 (length input)) 13 0 ∷ search_faults (query_part input) (shelf_part input) 100 1025 1025 1025

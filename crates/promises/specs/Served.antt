@@ -6,21 +6,21 @@ use Rattle.shelf.specs.Walk as shelf
 use Rattle.shelf.specs.Check.{checked}
 use Rattle.query.specs.Query.{Question, asked}
 use Rattle.rank.specs.Rank.{Hit}
-use Rattle.rank.specs.Match.{anyList, hitsOf}
+use Rattle.rank.specs.Match.{any_list, hits_of}
 use Rattle.prune.specs.Cut.{Listing, starts}
-use Rattle.exhaustive.specs.Lists.{listingsOf, termOn}
+use Rattle.exhaustive.specs.Lists.{listings_of, term_on}
 
 -- the query's lists, with their blocks
-abbrev pub listsFor : Question → List shelf.Listing → List Listing
-listsFor x ls = listingsOf x.terms ls
+abbrev pub lists_for : Question → List shelf.Listing → List Listing
+lists_for x ls = listings_of x.terms ls
 
 -- how many intervals they cut the sheet numbers into
-abbrev pub intervalCount : Question → List shelf.Listing → ℕ
-intervalCount x ls = length (starts 16777215 (listsFor x ls))
+abbrev pub interval_count : Question → List shelf.Listing → ℕ
+interval_count x ls = length (starts 16777215 (lists_for x ls))
 
 -- "A document matches when some query list holds it. Its score is the sum of weight times stored score.": all matches on the shelf
-abbrev pub matchesFor : Question → List shelf.Listing → List Hit
-matchesFor x ls = hitsOf anyList (map (termOn ls) x.terms)
+abbrev pub matches_for : Question → List shelf.Listing → List Hit
+matches_for x ls = hits_of any_list (map (term_on ls) x.terms)
 
 -- the shelf is sound and holds the lists ls, and the query is without fault and asks x; both are bytes, as every lent slice of them is
 pub record Asks (q s : List ℕ) (x : Question) (ls : List shelf.Listing) : Type 0 where
@@ -32,9 +32,9 @@ pub record Asks (q s : List ℕ) (x : Question) (ls : List shelf.Listing) : Type
 -- "room enough": a row for each of k hits, and in each of the book's runs a row for each interval
 pub record Room (x : Question) (ls : List shelf.Listing) (rows : ℕ) (fs cs ms : List ℕ) : Type 0 where
   pub hits : x.k ≤ rows
-  pub firsts : intervalCount x ls ≤ length fs
-  pub ceilings : intervalCount x ls ≤ length cs
-  pub marks : intervalCount x ls ≤ length ms
+  pub firsts : interval_count x ls ≤ length fs
+  pub ceilings : interval_count x ls ≤ length cs
+  pub marks : interval_count x ls ≤ length ms
 
 -- the bytes of a list as they stand in its shelf
 abbrev pub bytes_of : List ℕ → shelf.Listing → List ℕ

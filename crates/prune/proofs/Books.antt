@@ -10,73 +10,73 @@ use lib.Seq.{drop-set-lt, take-suc}
 use borrow.Author.Tests.{le-leb, lt-leb}
 use Rattle.model.specs.Outcome.{done}
 use Rattle.model.specs.Runs.{All, Asc}
-use Rattle.model.proofs.Lists.{and-false, All-map, All-append}
-use Rattle.prune.specs.Cut.{Block, Listing, topAt, ceilingAt, Rises}
+use Rattle.model.proofs.Lists.{and-false, All_map, All_append}
+use Rattle.prune.specs.Cut.{Block, Listing, top_at, ceiling_at, Rises}
 use Rattle.prune.proofs.Merges.{drop_at}
 use Rattle.model.proofs.Storing.{front-more, past_more}
-use Rattle.prune.specs.Gather.{blocksOf, Summaries, Reached, raise}
+use Rattle.prune.specs.Gather.{blocks_of, Summaries, Reached, raise}
 
 -- The block that a docid meets, by the place that was reached
-top-low : (n d : ℕ) (bs : List Block) → d ≤ n → Rises n bs → topAt bs d ≡ 0
-top-low n d [] l r = refl
-top-low n d (b ∷ bs) l r = rw (lt-leb b.least d (omega (arith, r.0))) (top-low b.greatest d bs (omega (arith, r.0, r.1)) r.2)
+top_low : (n d : ℕ) (bs : List Block) → d ≤ n → Rises n bs → top_at bs d ≡ 0
+top_low n d [] l r = refl
+top_low n d (b ∷ bs) l r = rw (lt-leb b.least d (omega (arith, r.0))) (top_low b.greatest d bs (omega (arith, r.0, r.1)) r.2)
 
 -- a block that ends below `d` is passed over
-top-pass : (l g t d : ℕ) (bs : List Block) → g < d → topAt (record { least = l; greatest = g; top = t; body = done [] } ∷ bs) d ≡ topAt bs d
+top-pass : (l g t d : ℕ) (bs : List Block) → g < d → top_at (record { least = l; greatest = g; top = t; body = done [] } ∷ bs) d ≡ top_at bs d
 top-pass l g t d bs h = rw (lt-leb d g h, and-false (leb l d))
 
-top-past : (los his tops : List ℕ) (d j : ℕ) → length los ≡ length his → length los ≡ length tops → All (λ g. g < d) (take j his) → length los ≤ j → topAt (blocksOf los his tops) d ≡ 0
+top-past : (los his tops : List ℕ) (d j : ℕ) → length los ≡ length his → length los ≡ length tops → All (λ g. g < d) (take j his) → length los ≤ j → top_at (blocks_of los his tops) d ≡ 0
 top-past [] his tops d j a b all l = refl
 top-past (x ∷ los) [] tops d j a b all l = refl
 top-past (x ∷ los) (g ∷ his) [] d j a b all l = refl
 top-past (x ∷ los) (g ∷ his) (t ∷ tops) d zero a b all l = absurd (omega arith)
 top-past (x ∷ los) (g ∷ his) (t ∷ tops) d (suc j) a b all l =
-    top-pass x g t d (blocksOf los his tops) all.0 ∙ top-past los his tops d j (omega arith) (omega arith) all.1 (omega arith)
+    top-pass x g t d (blocks_of los his tops) all.0 ∙ top-past los his tops d j (omega arith) (omega arith) all.1 (omega arith)
 
-top-gap : (los his tops : List ℕ) (n d j : ℕ) → length los ≡ length his → length los ≡ length tops → Rises n (blocksOf los his tops) → All (λ g. g < d) (take j his)
-    → j < length los → d < get_or los j 0 → topAt (blocksOf los his tops) d ≡ 0
+top-gap : (los his tops : List ℕ) (n d j : ℕ) → length los ≡ length his → length los ≡ length tops → Rises n (blocks_of los his tops) → All (λ g. g < d) (take j his)
+    → j < length los → d < get_or los j 0 → top_at (blocks_of los his tops) d ≡ 0
 top-gap [] his tops n d j a b r all l h = refl
 top-gap (x ∷ los) [] tops n d j a b r all l h = refl
 top-gap (x ∷ los) (g ∷ his) [] n d j a b r all l h = refl
 top-gap (x ∷ los) (g ∷ his) (t ∷ tops) n d zero a b r all l h =
-    rw (lt-leb x d h) (top-low g d (blocksOf los his tops) (omega (arith, r.1)) r.2)
+    rw (lt-leb x d h) (top_low g d (blocks_of los his tops) (omega (arith, r.1)) r.2)
 top-gap (x ∷ los) (g ∷ his) (t ∷ tops) n d (suc j) a b r all l h =
-    top-pass x g t d (blocksOf los his tops) all.0 ∙ top-gap los his tops g d j (omega arith) (omega arith) r.2 all.1 (omega arith) h
+    top-pass x g t d (blocks_of los his tops) all.0 ∙ top-gap los his tops g d j (omega arith) (omega arith) r.2 all.1 (omega arith) h
 
 top-met : (los his tops : List ℕ) (d j : ℕ) → length los ≡ length his → length los ≡ length tops → All (λ g. g < d) (take j his)
-    → j < length los → get_or los j 0 ≤ d → d ≤ get_or his j 0 → get_or tops j 0 ≡ topAt (blocksOf los his tops) d
+    → j < length los → get_or los j 0 ≤ d → d ≤ get_or his j 0 → get_or tops j 0 ≡ top_at (blocks_of los his tops) d
 top-met [] his tops d j a b all l h m = absurd (omega arith)
 top-met (x ∷ los) [] tops d j a b all l h m = absurd (omega arith)
 top-met (x ∷ los) (g ∷ his) [] d j a b all l h m = absurd (omega arith)
 top-met (x ∷ los) (g ∷ his) (t ∷ tops) d zero a b all l h m = rw (le-leb x d h, le-leb d g m)
 top-met (x ∷ los) (g ∷ his) (t ∷ tops) d (suc j) a b all l h m =
-    top-met los his tops d j (omega arith) (omega arith) all.1 (omega arith) h m ∙ sym (top-pass x g t d (blocksOf los his tops) all.0)
+    top-met los his tops d j (omega arith) (omega arith) all.1 (omega arith) h m ∙ sym (top-pass x g t d (blocks_of los his tops) all.0)
 
 module _ (los his tops : List ℕ) (d j : ℕ) (q : Summaries los his tops) (w : Reached his d j) where
-  pub reached-past : length los ≤ j → 0 ≡ topAt (blocksOf los his tops) d
+  pub reached-past : length los ≤ j → 0 ≡ top_at (blocks_of los his tops) d
   reached-past l = sym (top-past los his tops d j q.his-even q.tops-even w.below l)
 
-  pub reached-gap : j < length los → d < get_or los j 0 → 0 ≡ topAt (blocksOf los his tops) d
+  pub reached-gap : j < length los → d < get_or los j 0 → 0 ≡ top_at (blocks_of los his tops) d
   reached-gap l h = sym (top-gap los his tops 0 d j q.his-even q.tops-even q.rises w.below l h)
 
-  pub reached-met : j < length los → get_or los j 0 ≤ d → get_or tops j 0 ≡ topAt (blocksOf los his tops) d
+  pub reached-met : j < length los → get_or los j 0 ≤ d → get_or tops j 0 ≡ top_at (blocks_of los his tops) d
   reached-met l h = top-met los his tops d j q.his-even q.tops-even w.below l h (w.ends (omega (arith, q.his-even)))
 
 -- One turn of `reach`
 pub below_more : (his : List ℕ) (d j : ℕ) → All (λ g. g < d) (take j his) → j < length his → get_or his j 0 < d → All (λ g. g < d) (take (j + 1) his)
-below_more his d j all l h = rw (add-one j, take-suc his j 0 l) (All-append (λ g. g < d) (take j his) (get_or his j 0 ∷ []) all (h, tt))
+below_more his d j all l h = rw (add-one j, take-suc his j 0 l) (All_append (λ g. g < d) (take j his) (get_or his j 0 ∷ []) all (h, tt))
 
 -- from one interval to the next
-asc-at : (n k : ℕ) (xs : List ℕ) → Asc n xs → k + 1 < length xs → get_or xs k 0 < get_or xs (suc k) 0
-asc-at n k [] a l = absurd (omega arith)
-asc-at n zero (x ∷ []) a l = absurd (omega arith)
-asc-at n zero (x ∷ y ∷ xs) a l = a.1.0
-asc-at n (suc k) (x ∷ xs) a l = asc-at x k xs a.1 (omega arith)
+asc_at : (n k : ℕ) (xs : List ℕ) → Asc n xs → k + 1 < length xs → get_or xs k 0 < get_or xs (suc k) 0
+asc_at n k [] a l = absurd (omega arith)
+asc_at n zero (x ∷ []) a l = absurd (omega arith)
+asc_at n zero (x ∷ y ∷ xs) a l = a.1.0
+asc_at n (suc k) (x ∷ xs) a l = asc_at x k xs a.1 (omega arith)
 
 pub below_next : (starts his : List ℕ) (j k : ℕ) → Asc 0 starts → All (λ g. g < get_or starts k 0) (take j his) → k + 1 < length starts → All (λ g. g < get_or starts (k + 1) 0) (take j his)
 below_next starts his j k a all l =
-    let rise : get_or starts k 0 < get_or starts (k + 1) 0 = rw (add-one k) (asc-at 0 k starts a l) in
-    All-map {P = λ g. g < get_or starts k 0} (take j his) (λ g m. omega arith) all
+    let rise : get_or starts k 0 < get_or starts (k + 1) 0 = rw (add-one k) (asc_at 0 k starts a l) in
+    All_map {P = λ g. g < get_or starts k 0} (take j his) (λ g m. omega arith) all
 
 -- The state of `raise_all`
 pub record Raising (w : ℕ) (bs : List Block) (ds old out : List ℕ) (k : ℕ) : Type 0 where
@@ -85,8 +85,8 @@ pub record Raising (w : ℕ) (bs : List Block) (ds old out : List ℕ) (k : ℕ)
   pub rest : raise w bs ds old ≡ take k out ++ raise w bs (drop k ds) (drop k out)
   pub past : drop k out ≡ drop k old
 
-pub raising-none : (w : ℕ) (bs : List Block) (ds old : List ℕ) → Raising w bs ds old old 0
-raising-none w bs ds old = record { k-in = omega arith; same = refl; rest = refl; past = refl }
+pub raising_none : (w : ℕ) (bs : List Block) (ds old : List ℕ) → Raising w bs ds old old 0
+raising_none w bs ds old = record { k-in = omega arith; same = refl; rest = refl; past = refl }
 
 -- a number not yet raised is the old one
 pub unraised : (w : ℕ) (bs : List Block) (ds old out : List ℕ) (m k : ℕ) → length ds ≤ length old → Raising w bs ds old out k → k < length ds
@@ -101,9 +101,9 @@ unraised w bs ds old out m k h s l a = all-at (drop k out) (rw s.past (all_drop 
     all-at : (xs : List ℕ) → All (λ c. c < m) (drop k out) → get_or out k 0 < m
     all-at xs all = (rw (drop_at out k (omega (arith, s.same))) at all).0
 
-pub raising-more : (w : ℕ) (bs : List Block) (ds old out : List ℕ) (k t : ℕ) → length ds ≤ length old → Raising w bs ds old out k → k < length ds
-    → t ≡ topAt bs (get_or ds k 0) → Raising w bs ds old (set out k (get_or out k 0 + w * t)) (k + 1)
-raising-more w bs ds old out k t h s l e =
+pub raising_more : (w : ℕ) (bs : List Block) (ds old out : List ℕ) (k t : ℕ) → length ds ≤ length old → Raising w bs ds old out k → k < length ds
+    → t ≡ top_at bs (get_or ds k 0) → Raising w bs ds old (set out k (get_or out k 0 + w * t)) (k + 1)
+raising_more w bs ds old out k t h s l e =
     let room : k < length out = omega (arith, s.same) in
     let x = get_or out k 0 + w * t in
     let later : drop (k + 1) (set out k x) ≡ drop (k + 1) out = drop-set-lt (k + 1) out k x (omega arith) in
@@ -115,15 +115,15 @@ raising-more w bs ds old out k t h s l e =
       past = past_more old out k x s.past;
     }
 
-pub raising-done : (w : ℕ) (bs : List Block) (ds old out : List ℕ) (k : ℕ) → length ds ≤ k → Raising w bs ds old out k → out ≡ raise w bs ds old
-raising-done w bs ds old out k l s = sym (s.rest ∙ rw (drop_of_length-le ds l) (take-append-drop k out))
+pub raising_done : (w : ℕ) (bs : List Block) (ds old out : List ℕ) (k : ℕ) → length ds ≤ k → Raising w bs ds old out k → out ≡ raise w bs ds old
+raising_done w bs ds old out k l s = sym (s.rest ∙ rw (drop_of_length-le ds l) (take-append-drop k out))
 
 -- All lists: where the ceilings of the first lists stand, one more raises them to its own
-ceiling-snoc : (ls : List Listing) (l : Listing) (d : ℕ) → ceilingAt (ls ++ (l ∷ [])) d ≡ ceilingAt ls d + l.weight * topAt l.blocks d
-ceiling-snoc [] l d = omega arith
-ceiling-snoc (x ∷ ls) l d = omega (arith, ceiling-snoc ls l d)
+ceiling_snoc : (ls : List Listing) (l : Listing) (d : ℕ) → ceiling_at (ls ++ (l ∷ [])) d ≡ ceiling_at ls d + l.weight * top_at l.blocks d
+ceiling_snoc [] l d = omega arith
+ceiling_snoc (x ∷ ls) l d = omega (arith, ceiling_snoc ls l d)
 
 pub raise-list : (ls : List Listing) (l : Listing) (ds past : List ℕ)
-    → raise l.weight l.blocks ds (map (ceilingAt ls) ds ++ past) ≡ map (ceilingAt (ls ++ (l ∷ []))) ds ++ past
+    → raise l.weight l.blocks ds (map (ceiling_at ls) ds ++ past) ≡ map (ceiling_at (ls ++ (l ∷ []))) ds ++ past
 raise-list ls l [] past = refl
-raise-list ls l (d ∷ ds) past = rw (ceiling-snoc ls l d, raise-list ls l ds past)
+raise-list ls l (d ∷ ds) past = rw (ceiling_snoc ls l d, raise-list ls l ds past)

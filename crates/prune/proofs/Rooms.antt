@@ -10,10 +10,10 @@ use borrow.Author.Tests.{leb-true}
 use Rattle.model.specs.Outcome.{Outcome, refused, done, and_then}
 use Rattle.model.proofs.Lists.{split}
 use Rattle.rank.specs.Rank.{Hit, ranking, keep, keeps}
-use Rattle.rank.specs.Match.{Rule, hitsOf}
+use Rattle.rank.specs.Match.{Rule, hits_of}
 use Rattle.prune.specs.Cut.{Listing}
-use Rattle.prune.specs.Search.{Span, opens, unless, step, searchFrom}
-use Rattle.prune.specs.Prune.{Bar, faultAll, termsOf, exhaustive, spans, pruned}
+use Rattle.prune.specs.Search.{Span, opens, unless, step, search_from}
+use Rattle.prune.specs.Prune.{Bar, fault_all, terms_of, exhaustive, spans, pruned}
 
 -- what is done, if anything, has a size of at most `rows`
 abbrev pub Within : {A : Type 0} → (A → ℕ) → ℕ → Outcome A → Type 0
@@ -24,9 +24,9 @@ pub within_more : {A : Type 0} (size : A → ℕ) (k rows : ℕ) (o : Outcome A)
 within_more size k rows (refused n a) l h = tt
 within_more size k rows (done x) l h = omega arith
 
-pub then-within : {A B : Type 0} (size : B → ℕ) (rows : ℕ) (o : Outcome A) (f : A → Outcome B) → ((x : A) → Within size rows (f x)) → Within size rows (and_then o f)
-then-within size rows (refused n a) f h = tt
-then-within size rows (done x) f h = h x
+pub then_within : {A B : Type 0} (size : B → ℕ) (rows : ℕ) (o : Outcome A) (f : A → Outcome B) → ((x : A) → Within size rows (f x)) → Within size rows (and_then o f)
+then_within size rows (refused n a) f h = tt
+then_within size rows (done x) f h = h x
 
 -- "9: hit rows are fewer than k", so what is answered has a row for each hit
 pub judged-within : {A : Type 0} (size : A → ℕ) (k rows : ℕ) (o : Outcome A) → Within size k o → Within size rows (cond (leb k rows) o (refused 9 0))
@@ -42,7 +42,7 @@ unless-within k none hs l = l
 unless-within k (some a) hs l = tt
 
 pub exhaustive-within : (m : Rule) (k : ℕ) (ls : List Listing) → Within length k (exhaustive m k ls)
-exhaustive-within m k ls = unless-within k (faultAll ls) (ranking k (hitsOf m (termsOf ls))) (rw length-take (omega arith))
+exhaustive-within m k ls = unless-within k (fault_all ls) (ranking k (hits_of m (terms_of ls))) (rw length-take (omega arith))
 
 -- ---- the pruned search
 
@@ -57,7 +57,7 @@ step-within k (done kept) s h =
     (λ e. rw e (unless-within k s.fault (keeps k kept s.hits) (keeps-few k kept s.hits h)))
     (λ e. rw e h)
 
-spans-within : (k : ℕ) (now : Outcome (List Hit)) (ss : List Span) → Within length k now → Within length k (searchFrom k now ss)
+spans-within : (k : ℕ) (now : Outcome (List Hit)) (ss : List Span) → Within length k now → Within length k (search_from k now ss)
 spans-within k now [] h = h
 spans-within k now (s ∷ ss) h = spans-within k (step k now s) ss (step-within k now s h)
 

@@ -6,30 +6,30 @@ use native.Mathlib.Omega.{arith}
 use lib.ListN.{length, get_or, take, drop, length-drop, drop_of_length-le}
 use lib.Seq.{length-take-le}
 use Rattle.model.specs.Runs.{Asc, Holds}
-use Rattle.prune.specs.Cut.{Listing, allEdges, addCuts, cuts}
-use Rattle.prune.proofs.Cuts.{adds-asc}
-use Rattle.prune.specs.Gather.{Blocks, edgesOf, part, flatEdges, Fine}
+use Rattle.prune.specs.Cut.{Listing, all_edges, add_cuts, cuts}
+use Rattle.prune.proofs.Cuts.{adds_asc}
+use Rattle.prune.specs.Gather.{Blocks, edges_of, part, flat_edges, Fine}
 use Rattle.prune.proofs.Merges.{drop_at}
-use Rattle.model.proofs.Storing.{holds-take, holds-trans, holds-none}
+use Rattle.model.proofs.Storing.{holds-take, holds_trans, holds-none}
 use Rattle.prune.proofs.Gathers.{cuts-append, adds-few, edges_few}
-use Rattle.prune.proofs.Listings.{leasts, greatests, edges-of, adds-grow}
+use Rattle.prune.proofs.Listings.{leasts, greatests, edges-of, adds_grow}
 
 pub record Walking (lim : ℕ) (ends los his old run : List ℕ) (n f t : ℕ) : Type 0 where
-  pub t-in : t ≤ length ends
+  pub t_in : t ≤ length ends
   pub same : length run ≡ length old
   pub few : n ≤ 2 * f
-  pub f-in : f ≤ length los
+  pub f_in : f ≤ length los
   pub fine : Fine lim f (drop t ends) los his
-  pub rest : addCuts lim [] (flatEdges 0 ends los his) ≡ addCuts lim (take n run) (flatEdges f (drop t ends) los his)
+  pub rest : add_cuts lim [] (flat_edges 0 ends los his) ≡ add_cuts lim (take n run) (flat_edges f (drop t ends) los his)
   pub asc : Asc 1 (take n run)
   pub held : Holds old (take n run) run n
 
-pub walking-none : (lim : ℕ) (ends los his old : List ℕ) → Fine lim 0 ends los his → Walking lim ends los his old old 0 0 0
-walking-none lim ends los his old g = record {
-  t-in = omega arith;
+pub walking_none : (lim : ℕ) (ends los his old : List ℕ) → Fine lim 0 ends los his → Walking lim ends los his old old 0 0 0
+walking_none lim ends los his old g = record {
+  t_in = omega arith;
   same = refl;
   few = omega arith;
-  f-in = omega arith;
+  f_in = omega arith;
   fine = g;
   rest = refl;
   asc = tt;
@@ -38,55 +38,55 @@ walking-none lim ends los his old g = record {
 
 module _ (lim : ℕ) (ends los his old run : List ℕ) (n f t : ℕ) (s : Walking lim ends los his old run n f t) (l : t < length ends) where
   -- the next list
-  pub next-fine : Fine lim f (get_or ends t 0 ∷ drop (t + 1) ends) los his
-  next-fine = rw (drop_at ends t l) at s.fine
+  pub next_fine : Fine lim f (get_or ends t 0 ∷ drop (t + 1) ends) los his
+  next_fine = rw (drop_at ends t l) at s.fine
 
   pub part_length : (xs : List ℕ) → f ≤ get_or ends t 0 → get_or ends t 0 ≤ length xs → length (part f (get_or ends t 0) xs) ≡ get_or ends t 0 - f
   part_length xs a b = length-take-le (get_or ends t 0 - f) (drop f xs) (simp length-drop (omega arith))
 
-  pub walking-more : (new : List ℕ) (r : ℕ) → length new ≡ length run → 2 * length los ≤ length old
-      → Holds run (addCuts lim (take n run) (edgesOf (part f (get_or ends t 0) los) (part f (get_or ends t 0) his))) new r
+  pub walking_more : (new : List ℕ) (r : ℕ) → length new ≡ length run → 2 * length los ≤ length old
+      → Holds run (add_cuts lim (take n run) (edges_of (part f (get_or ends t 0) los) (part f (get_or ends t 0) his))) new r
       → Walking lim ends los his old new r (get_or ends t 0) (t + 1)
-  walking-more new r w room h = record {
-    t-in = omega arith;
+  walking_more new r w room h = record {
+    t_in = omega arith;
     same = w ∙ s.same;
     few = most;
-    f-in = next-fine.1;
-    fine = next-fine.5;
-    rest = s.rest ∙ rw (drop_at ends t l, taken) (cuts-append lim (take n run) es (flatEdges (get_or ends t 0) (drop (t + 1) ends) los his));
-    asc = rw taken (adds-asc lim (take n run) es s.asc);
-    held = rw taken (holds-trans old (take n run) run (addCuts lim (take n run) es) new n r s.held h grown);
+    f_in = next_fine.1;
+    fine = next_fine.5;
+    rest = s.rest ∙ rw (drop_at ends t l, taken) (cuts-append lim (take n run) es (flat_edges (get_or ends t 0) (drop (t + 1) ends) los his));
+    asc = rw taken (adds_asc lim (take n run) es s.asc);
+    held = rw taken (holds_trans old (take n run) run (add_cuts lim (take n run) es) new n r s.held h grown);
   }
     where
       e : ℕ
       e = get_or ends t 0
 
       es : List ℕ
-      es = edgesOf (part f e los) (part f e his)
+      es = edges_of (part f e los) (part f e his)
 
-      taken : take r new ≡ addCuts lim (take n run) es
-      taken = holds-take run (addCuts lim (take n run) es) new r h
+      taken : take r new ≡ add_cuts lim (take n run) es
+      taken = holds-take run (add_cuts lim (take n run) es) new r h
 
       size : length (take n run) ≡ n
-      size = length-take-le n run (omega (arith, s.same, s.few, s.f-in))
+      size = length-take-le n run (omega (arith, s.same, s.few, s.f_in))
 
       grown : n ≤ r
-      grown = omega (arith, h.count, adds-grow lim (take n run) es, size)
+      grown = omega (arith, h.count, adds_grow lim (take n run) es, size)
 
       most : r ≤ 2 * e
-      most = omega (arith, h.count, adds-few lim (take n run) es, edges_few (part f e los) (part f e his), part_length los next-fine.0 next-fine.1, next-fine.0, size, s.few)
+      most = omega (arith, h.count, adds-few lim (take n run) es, edges_few (part f e los) (part f e his), part_length los next_fine.0 next_fine.1, next_fine.0, size, s.few)
 
-  pub walking-asks : 2 * length los ≤ length old → length old ≤ 1024 → lim < 4294967295
+  pub walking_asks : 2 * length los ≤ length old → length old ≤ 1024 → lim < 4294967295
       → Blocks lim (part f (get_or ends t 0) los) (part f (get_or ends t 0) his) × (lim < 4294967295)
       × (n + 2 * length (part f (get_or ends t 0) los) ≤ length run) × Asc 1 (take n run) × (length (part f (get_or ends t 0) los) ≤ 64) × (length run ≤ 1024)
-  walking-asks a b m =
-      let p : length (part f (get_or ends t 0) los) ≡ get_or ends t 0 - f = part_length los next-fine.0 next-fine.1 in
-      (next-fine.4, m, omega (arith, next-fine.0, next-fine.1, s.few, s.same), s.asc, omega (arith, next-fine.3), omega (arith, s.same))
+  walking_asks a b m =
+      let p : length (part f (get_or ends t 0) los) ≡ get_or ends t 0 - f = part_length los next_fine.0 next_fine.1 in
+      (next_fine.4, m, omega (arith, next_fine.0, next_fine.1, s.few, s.same), s.asc, omega (arith, next_fine.3), omega (arith, s.same))
 
-pub walking-done : (lim : ℕ) (ends los his old run : List ℕ) (n f t : ℕ) → Walking lim ends los his old run n f t → length ends ≤ t
-    → Holds old (addCuts lim [] (flatEdges 0 ends los his)) run n
-walking-done lim ends los his old run n f t s l =
-    let q : addCuts lim [] (flatEdges 0 ends los his) ≡ take n run = s.rest ∙ rw (drop_of_length-le ends l) in
+pub walking_done : (lim : ℕ) (ends los his old run : List ℕ) (n f t : ℕ) → Walking lim ends los his old run n f t → length ends ≤ t
+    → Holds old (add_cuts lim [] (flat_edges 0 ends los his)) run n
+walking_done lim ends los his old run n f t s l =
+    let q : add_cuts lim [] (flat_edges 0 ends los his) ≡ take n run = s.rest ∙ rw (drop_of_length-le ends l) in
     rw q s.held
 
 -- The parts spell the query's lists: then what is gathered is `cuts`
@@ -96,11 +96,11 @@ Spells f [] los his (l ∷ ls) = ⊥
 Spells f (e ∷ es) los his [] = ⊥
 Spells f (e ∷ es) los his (l ∷ ls) = (part f e los ≡ leasts l.blocks) × (part f e his ≡ greatests l.blocks) × Spells e es los his ls
 
-flat-all : (f : ℕ) (ends los his : List ℕ) (ls : List Listing) → Spells f ends los his ls → flatEdges f ends los his ≡ allEdges ls
+flat-all : (f : ℕ) (ends los his : List ℕ) (ls : List Listing) → Spells f ends los his ls → flat_edges f ends los his ≡ all_edges ls
 flat-all f [] los his [] s = refl
 flat-all f [] los his (l ∷ ls) s = absurd s
 flat-all f (e ∷ es) los his [] s = absurd s
 flat-all f (e ∷ es) los his (l ∷ ls) s = rw (s.0, s.1, edges-of l.blocks, flat-all e es los his ls s.2)
 
-pub flat-cuts : (lim : ℕ) (ends los his : List ℕ) (ls : List Listing) → Spells 0 ends los his ls → addCuts lim [] (flatEdges 0 ends los his) ≡ cuts lim ls
-flat-cuts lim ends los his ls s = ap (addCuts lim []) (flat-all 0 ends los his ls s)
+pub flat-cuts : (lim : ℕ) (ends los his : List ℕ) (ls : List Listing) → Spells 0 ends los his ls → add_cuts lim [] (flat_edges 0 ends los his) ≡ cuts lim ls
+flat-cuts lim ends los his ls s = ap (add_cuts lim []) (flat-all 0 ends los his ls s)

@@ -1,17 +1,17 @@
 -- What the pruned ranker answers, and what the book's runs then hold, for every input. Order: "1, 2, 3, 4, 5, then 6/7, 9, 8". Assumes nothing.
 use Rattle.std.specs.Prelude.{ℕ, ◌≤◌, ◌≡◌, cond, List, map, ◌++◌, leb, length, drop}
-use Rattle.model.specs.Limits.{maxDocid, maxTerms, maxK}
+use Rattle.model.specs.Limits.{max_docid, max_terms, max_k}
 use Rattle.model.specs.Outcome.{Outcome, refused, done, and_then}
 use Rattle.query.specs.Query.{asked}
 use Rattle.shelf.specs.Walk.{walk}
 use Rattle.lookup.specs.Table.{Gatherable}
 use Rattle.rank.specs.Rank.{Hit}
-use Rattle.rank.specs.Match.{anyList}
-use Rattle.rank.specs.Keep.{keptOf, noHits, keeper}
-use Rattle.prune.specs.Cut.{Listing, starts, ceilingAt, blockCount}
-use Rattle.prune.specs.Prune.{never, pruned, book, blocksOpened}
-use Rattle.exhaustive.specs.Lists.{listingsOf}
-use Rattle.exhaustive.specs.Exhaustive.{paperOf}
+use Rattle.rank.specs.Match.{any_list}
+use Rattle.rank.specs.Keep.{kept_of, no_hits, keeper}
+use Rattle.prune.specs.Cut.{Listing, starts, ceiling_at, block_count}
+use Rattle.prune.specs.Prune.{never, pruned, book, blocks_opened}
+use Rattle.exhaustive.specs.Lists.{listings_of}
+use Rattle.exhaustive.specs.Exhaustive.{paper_of}
 use Rattle.exhaustive.specs.Merge.{Mergeable}
 use Rattle.exhaustive.specs.declared.all.Verdict.TheVariants.{Refused}
 use Rattle.intervals.specs.Blocks.{room_for}
@@ -25,14 +25,14 @@ pub record Sought : Type 0 where
 
 -- "Number 9 is given exactly when hit rows are fewer than k, a book run is shorter than the interval count"
 abbrev pub fitting : (k : ℕ) (lists : List Listing) (a b c : ℕ) → Outcome Sought
-fitting k lists a b c = cond (room_for (length (starts maxDocid lists)) a b c) (done (record { k = k; lists = lists })) (refused 9 0)
+fitting k lists a b c = cond (room_for (length (starts max_docid lists)) a b c) (done (record { k = k; lists = lists })) (refused 9 0)
 
 -- by the query, the shelf, the number of hit rows and the lengths of the book's three runs
 abbrev pub sought : (q s : List ℕ) (rows a b c : ℕ) → Outcome Sought
 sought q s rows a b c =
     and_then (asked q) (λ x.
     and_then (walk s) (λ ls.
-    cond (leb x.k rows) (fitting x.k (listingsOf x.terms ls) a b c) (refused 9 0)))
+    cond (leb x.k rows) (fitting x.k (listings_of x.terms ls) a b c) (refused 9 0)))
 
 -- ---- the answer
 
@@ -51,22 +51,22 @@ abbrev pub front : (rows old : List ℕ) → List ℕ
 front rows old = rows ++ drop (length rows) old
 
 -- "Counts in a refusal are 0"
-abbrev pub unlessRefused : Outcome (List Hit) → ℕ → ℕ
-unlessRefused (refused n at) count = 0
-unlessRefused (done hs) count = count
+abbrev pub unless_refused : Outcome (List Hit) → ℕ → ℕ
+unless_refused (refused n at) count = 0
+unless_refused (done hs) count = count
 
 -- "The book has one row per interval in three lent runs: first docid, ceiling, mark." "Counts in a refusal are 0 and outputs are untouched, except 8
 -- in a pruned search: the interval count is returned, the book is filled with marks 2 and 3 where they apply"
 abbrev pub answer : Outcome Sought → (fs cs ms : List ℕ) → Answer
 answer (refused n at) fs cs ms = record { outcome = refused n at; intervals = 0; opened = 0; blocks = 0; firsts = fs; ceilings = cs; marks = ms }
 answer (done x) fs cs ms = record {
-  outcome = pruned anyList never maxDocid x.k x.lists;
-  intervals = length (starts maxDocid x.lists);
-  opened = unlessRefused (pruned anyList never maxDocid x.k x.lists) (blocksOpened anyList never maxDocid x.k x.lists);
-  blocks = unlessRefused (pruned anyList never maxDocid x.k x.lists) (blockCount x.lists);
-  firsts = front (starts maxDocid x.lists) fs;
-  ceilings = front (map (ceilingAt x.lists) (starts maxDocid x.lists)) cs;
-  marks = front (book anyList never maxDocid x.k x.lists) ms;
+  outcome = pruned any_list never max_docid x.k x.lists;
+  intervals = length (starts max_docid x.lists);
+  opened = unless_refused (pruned any_list never max_docid x.k x.lists) (blocks_opened any_list never max_docid x.k x.lists);
+  blocks = unless_refused (pruned any_list never max_docid x.k x.lists) (block_count x.lists);
+  firsts = front (starts max_docid x.lists) fs;
+  ceilings = front (map (ceiling_at x.lists) (starts max_docid x.lists)) cs;
+  marks = front (book any_list never max_docid x.k x.lists) ms;
 }
 
 unfoldable pub searched : (q s : List ℕ) (rows : ℕ) (fs cs ms : List ℕ) → Answer
@@ -76,12 +76,12 @@ searched q s rows fs cs ms = answer (sought q s rows (length fs) (length cs) (le
 
 -- what a call hands back is the answer; where that is a refusal there is no hit in it
 pub record Answers (a : Answer) (fs' cs' ms' : List ℕ) (r : Pruned) : Type 0 where
-  pub outcome : paperOf r.verdict (keptOf r.kept) ≡ a.outcome
+  pub outcome : paper_of r.verdict (kept_of r.kept) ≡ a.outcome
   -- the keeper's count is the number of hits
-  pub few : r.kept.n ≤ maxK
-  pub cleared : (n at : ℕ) → r.verdict ≡ Refused n at → r.kept ≡ noHits
+  pub few : r.kept.n ≤ max_k
+  pub cleared : (n at : ℕ) → r.verdict ≡ Refused n at → r.kept ≡ no_hits
   -- past the hits its rows are zeros
-  pub whole : r.kept ≡ keeper (keptOf r.kept)
+  pub whole : r.kept ≡ keeper (kept_of r.kept)
   pub intervals : r.intervals ≡ a.intervals
   pub opened : r.opened ≡ a.opened
   pub blocks : r.blocks ≡ a.blocks
@@ -90,9 +90,9 @@ pub record Answers (a : Answer) (fs' cs' ms' : List ℕ) (r : Pruned) : Type 0 w
   pub marks : ms' ≡ a.marks
 
 abbrev pub refusal : (number at intervals : ℕ) → Pruned
-refusal number at intervals = record { verdict = Refused number at; intervals = intervals; opened = 0; blocks = 0; kept = noHits }
+refusal number at intervals = record { verdict = Refused number at; intervals = intervals; opened = 0; blocks = 0; kept = no_hits }
 
 -- the lists were walked and may be gathered, and k is in range
 pub record Searchable (s ats counts : List ℕ) (k : ℕ) : Type 0 where
   pub walked : Mergeable s ats counts k
-  pub ready : Gatherable s ats counts maxTerms
+  pub ready : Gatherable s ats counts max_terms

@@ -1,7 +1,7 @@
 // The pruned ranker. Its refusals come in the paper's order: 1 to 5 by the query, 6 and 7 by the shelf, 9 by the rows and the book, 8 by the bodies
 // of the blocks that are met.
 ghost use Rattle.std.specs.Prelude.{◌≡◌, length};
-ghost use Rattle.exhaustive.specs.Merge.{listsFrom};
+ghost use Rattle.exhaustive.specs.Merge.{lists_from};
 ghost use Rattle.pruned.specs.Pruned.{Searchable, refusal, fitting, answer, searched, Answers};
 
 use exhaustive::all::Verdict;
@@ -47,7 +47,7 @@ fn over_found(
     marks: &mut [u8],
 ) -> Pruned
     requires { Searchable shelf.now found.ats found.counts k }
-    ensures { Answers (answer (fitting k (listsFrom shelf.now weights found.ats found.counts) (length firsts.old) (length ceilings.old) (length marks.old)) firsts.old ceilings.old marks.old) firsts.new ceilings.new marks.new result }
+    ensures { Answers (answer (fitting k (lists_from shelf.now weights found.ats found.counts) (length firsts.old) (length ceilings.old) (length marks.old)) firsts.old ceilings.old marks.old) firsts.new ceilings.new marks.new result }
 {
     let blocks = lookup::gather::gather(shelf, found, 8);
     let ends = blocks.ends;

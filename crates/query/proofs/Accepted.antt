@@ -4,50 +4,50 @@ use native.Mathlib.Omega.{arith}
 use mathlib.Core.Path.{◌≡◌, refl, subst}
 use mathlib.Core.List.{List, []}
 use lib.ListN.{length, drop, length-drop}
-use Rattle.model.specs.Limits.{maxWeight}
+use Rattle.model.specs.Limits.{max_weight}
 use Rattle.model.specs.Outcome.{Outcome, done, and_then}
 use Rattle.model.specs.Runs.{All, Bytes}
-use Rattle.model.proofs.Lists.{bytes_drop, All-both}
+use Rattle.model.proofs.Lists.{bytes_drop, All_both}
 use Rattle.wire.specs.Number.{num}
 use Rattle.wire.proofs.Numbers.{num-below}
-use Rattle.query.specs.Query.{Asked, Question, termsIn, question, fieldCount, allRight, judge, asked}
+use Rattle.query.specs.Query.{Asked, Question, terms_in, question, field_count, all_right, judge, asked}
 use Rattle.query.specs.Range.{InRange}
 use Rattle.query.specs.declared.fields.FieldsRead.{FieldsRead}
 use Rattle.query.specs.declared.fields.FieldsRead.TheVariants.{Terms, Wrong}
-use Rattle.query.proofs.Parts.{fields-size}
-use Rattle.query.proofs.Judging.{then-done, faultless}
+use Rattle.query.proofs.Parts.{fields_size}
+use Rattle.query.proofs.Judging.{then_done, faultless}
 use Rattle.query.proofs.Apart.{weights-above, unrepeated-once}
 
 -- the fields of an accepted query are right, the tests find nothing, and its fields say what it asks
 pub record Accepted (s : List ℕ) (x : Question) (n : ℕ) : Type 0 where
-  pub counted : fieldCount s ≡ Terms n
+  pub counted : field_count s ≡ Terms n
   pub clear : judge (length s) x ≡ done tt
   pub says : question (num 1 (drop 3 s)) n s ≡ x
 
 abbrev answer : (s : List ℕ) → FieldsRead → Outcome Question
 answer s r =
-    and_then (allRight r) (λ n.
+    and_then (all_right r) (λ n.
     let x = question (num 1 (drop 3 s)) n s in
     and_then (judge (length s) x) (λ ok. done x))
 
-by-fields : (s : List ℕ) (x : Question) (r : FieldsRead) → fieldCount s ≡ r → answer s r ≡ done x → (n : ℕ) × Accepted s x n
-by-fields s x (Terms n) f g =
-    let d = then-done (judge (length s) (question (num 1 (drop 3 s)) n s)) (λ ok. done (question (num 1 (drop 3 s)) n s)) x g in
+by_fields : (s : List ℕ) (x : Question) (r : FieldsRead) → field_count s ≡ r → answer s r ≡ done x → (n : ℕ) × Accepted s x n
+by_fields s x (Terms n) f g =
+    let d = then_done (judge (length s) (question (num 1 (drop 3 s)) n s)) (λ ok. done (question (num 1 (drop 3 s)) n s)) x g in
     let says : done (question (num 1 (drop 3 s)) n s) ≡ done x = d.1 in
     let same : question (num 1 (drop 3 s)) n s ≡ x = cc in
     (n, record { counted = f; clear = rw same at d.0; says = same })
-by-fields s x (Wrong at) f g = let z : ◌≡◌ {A = ℕ} 0 1 = cc in absurd (omega arith)
+by_fields s x (Wrong at) f g = let z : ◌≡◌ {A = ℕ} 0 1 = cc in absurd (omega arith)
 
 pub accepted : (s : List ℕ) (x : Question) → asked s ≡ done x → (n : ℕ) × Accepted s x n
 unfolding asked
-accepted s x e = by-fields s x (fieldCount s) refl e
+accepted s x e = by_fields s x (field_count s) refl e
 
 -- what 4 bytes and 1 byte can say
 abbrev Bounded : Asked → Type 0
-Bounded a = (a.term < 2 ^ 32) × (a.weight ≤ maxWeight)
+Bounded a = (a.term < 2 ^ 32) × (a.weight ≤ max_weight)
 
-bounded : (n : ℕ) (s : List ℕ) → Bytes s → 8 * n ≤ length s → All Bounded (termsIn n s)
-unfolding termsIn
+bounded : (n : ℕ) (s : List ℕ) → Bytes s → 8 * n ≤ length s → All Bounded (terms_in n s)
+unfolding terms_in
 bounded zero s b h = tt
 bounded (suc n) s b h =
     let t : num 4 (drop 3 s) < 2 ^ 32 = num-below 4 (drop 3 s) (bytes_drop 3 s b) (simp length-drop (omega arith)) in
@@ -55,18 +55,18 @@ bounded (suc n) s b h =
     ((t, omega arith), bounded n (drop 8 s) (bytes_drop 8 s b) (simp length-drop (omega arith)))
 
 -- "k, terms, weight: 1 to 100, 1 to 8, 1 to 255", and no term twice
-pub accepted-in-range : (s : List ℕ) (x : Question) → Bytes s → asked s ≡ done x → InRange x
-accepted-in-range s x b e =
+pub accepted_in_range : (s : List ℕ) (x : Question) → Bytes s → asked s ≡ done x → InRange x
+accepted_in_range s x b e =
     let n = (accepted s x e).0 in
     let a : Accepted s x n = (accepted s x e).1 in
     let f = faultless (length s) x a.clear in
-    let room : 8 * n ≤ length (drop 4 s) = simp length-drop (omega (arith, fields-size s n a.counted)) in
+    let room : 8 * n ≤ length (drop 4 s) = simp length-drop (omega (arith, fields_size s n a.counted)) in
     let all : All Bounded x.terms = subst (λ (y : Question). All Bounded y.terms) a.says (bounded n (drop 4 s) (bytes_drop 4 s b) room) in
     record {
-      k-low = f.k-low;
-      k-high = f.k-high;
+      k_low = f.k_low;
+      k_high = f.k_high;
       some = f.some;
       few = f.few;
-      each = All-both x.terms (λ y p w. (p.0, w, p.1)) all (weights-above 0 x.terms f.weighed);
+      each = All_both x.terms (λ y p w. (p.0, w, p.1)) all (weights-above 0 x.terms f.weighed);
       once = (unrepeated-once [] 0 x.terms f.once).1;
     }

@@ -8,8 +8,8 @@ use borrow.Author.Tests.{eqb-false, ne_eqb, eq-eqb}
 use lib.Dec.{eqb}
 use Rattle.model.specs.Outcome.{Outcome, refused, done}
 use Rattle.model.specs.Runs.{All, has}
-use Rattle.model.proofs.Lists.{split, All-map, All-both}
-use Rattle.query.specs.Query.{Asked, termsOf, termAt, weighted, unrepeated}
+use Rattle.model.proofs.Lists.{split, All_map, All_both}
+use Rattle.query.specs.Query.{Asked, terms_of, term_at, weighted, unrepeated}
 use Rattle.query.specs.Range.{Once}
 
 -- a refusal is not accepted
@@ -22,7 +22,7 @@ pub weights-above : (i : ℕ) (xs : List Asked) → weighted i xs ≡ done tt �
 weights-above i [] e = tt
 weights-above i (a ∷ rest) e =
     split (eqb a.weight 0)
-    (λ w. refusal 4 (termAt i) (rw w at e))
+    (λ w. refusal 4 (term_at i) (rw w at e))
     (λ w. (omega (arith, eqb-false a.weight 0 w), weights-above (i + 1) rest (rw w at e)))
 
 pub above-weights : (i : ℕ) (xs : List Asked) → All (λ (a : Asked). 1 ≤ a.weight) xs → weighted i xs ≡ done tt
@@ -31,9 +31,9 @@ above-weights i (a ∷ rest) all = rw (ne_eqb a.weight 0 (omega (arith, all.0)))
 
 -- ---- terms
 
-or-both : (a b : Bool) → (a || b) ≡ false → (a ≡ false) × (b ≡ false)
-or-both true b e = absurd (false≢true (sym e))
-or-both false b e = (refl, e)
+or_both : (a b : Bool) → (a || b) ≡ false → (a ≡ false) × (b ≡ false)
+or_both true b e = absurd (false≢true (sym e))
+or_both false b e = (refl, e)
 
 neither : (a b : Bool) → a ≡ false → b ≡ false → (a || b) ≡ false
 neither a b e f = rw (e, f)
@@ -47,32 +47,32 @@ Unlike t xs = All (λ (a : Asked). eqb a.term t ≡ false) xs
 abbrev Clear : List ℕ → List Asked → Type 0
 Clear before xs = All (λ (a : Asked). has a.term before ≡ false) xs
 
-unlike-has : (t : ℕ) (xs : List Asked) → Unlike t xs → has t (termsOf xs) ≡ false
-unlike-has t [] all = refl
-unlike-has t (a ∷ rest) all = rw (eqb-turn a.term t all.0) (unlike-has t rest all.1)
+unlike_has : (t : ℕ) (xs : List Asked) → Unlike t xs → has t (terms_of xs) ≡ false
+unlike_has t [] all = refl
+unlike_has t (a ∷ rest) all = rw (eqb-turn a.term t all.0) (unlike_has t rest all.1)
 
-has-unlike : (t : ℕ) (xs : List Asked) → has t (termsOf xs) ≡ false → Unlike t xs
-has-unlike t [] e = tt
-has-unlike t (a ∷ rest) e =
-    let b = or-both (eqb t a.term) _ e in
-    (eqb-turn t a.term b.0, has-unlike t rest b.1)
+has_unlike : (t : ℕ) (xs : List Asked) → has t (terms_of xs) ≡ false → Unlike t xs
+has_unlike t [] e = tt
+has_unlike t (a ∷ rest) e =
+    let b = or_both (eqb t a.term) _ e in
+    (eqb-turn t a.term b.0, has_unlike t rest b.1)
 
-pub unrepeated-once : (before : List ℕ) (i : ℕ) (xs : List Asked) → unrepeated before i xs ≡ done tt → Clear before xs × Once (termsOf xs)
+pub unrepeated-once : (before : List ℕ) (i : ℕ) (xs : List Asked) → unrepeated before i xs ≡ done tt → Clear before xs × Once (terms_of xs)
 unrepeated-once before i [] e = (tt, tt)
 unrepeated-once before i (a ∷ rest) e =
     split (has a.term before)
-    (λ w. refusal 5 (termAt i) (rw w at e))
+    (λ w. refusal 5 (term_at i) (rw w at e))
     (λ w.
     let r = unrepeated-once (a.term ∷ before) (i + 1) rest (rw w at e) in (
-      (w, All-map rest (λ b h. (or-both (eqb b.term a.term) _ h).1) r.0),
-      (unlike-has a.term rest (All-map rest (λ b h. (or-both (eqb b.term a.term) _ h).0) r.0), r.1),
+      (w, All_map rest (λ b h. (or_both (eqb b.term a.term) _ h).1) r.0),
+      (unlike_has a.term rest (All_map rest (λ b h. (or_both (eqb b.term a.term) _ h).0) r.0), r.1),
     ))
 
-pub once-unrepeated : (before : List ℕ) (i : ℕ) (xs : List Asked) → Clear before xs → Once (termsOf xs) → unrepeated before i xs ≡ done tt
+pub once-unrepeated : (before : List ℕ) (i : ℕ) (xs : List Asked) → Clear before xs → Once (terms_of xs) → unrepeated before i xs ≡ done tt
 once-unrepeated before i [] clear once = refl
 once-unrepeated before i (a ∷ rest) clear once =
     rw clear.0
-    (once-unrepeated (a.term ∷ before) (i + 1) rest (All-both rest (λ b u v. neither _ _ u v) (has-unlike a.term rest once.0) clear.1) once.1)
+    (once-unrepeated (a.term ∷ before) (i + 1) rest (All_both rest (λ b u v. neither _ _ u v) (has_unlike a.term rest once.0) clear.1) once.1)
 
 pub clear_none : (xs : List Asked) → Clear [] xs
 clear_none [] = tt

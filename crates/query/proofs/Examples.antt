@@ -5,8 +5,8 @@ use mathlib.Core.List.{List, [], ◌∷◌, ◌++◌, map}
 use lib.ListN.{take}
 use Rattle.model.specs.Outcome.{Outcome, refused, done}
 use Rattle.wire.specs.Number.{num, be}
-use Rattle.wire.specs.Field.{fieldLen, whole, fieldBytes}
-use Rattle.query.specs.Query.{Asked, Question, isField, termsIn, termCount, fieldCount, judge, asked, termBytes, questionBytes}
+use Rattle.wire.specs.Field.{field_len, whole, field_bytes}
+use Rattle.query.specs.Query.{Asked, Question, is_field, terms_in, term_count, field_count, judge, asked, term_bytes, question_bytes}
 
 -- some bytes, and what they give as a query
 pub record Case : Type 0 where
@@ -27,22 +27,22 @@ abbrev eight : List Asked
 eight = a 1 1 ∷ a 2 1 ∷ a 3 1 ∷ a 4 1 ∷ a 5 1 ∷ a 6 1 ∷ a 7 1 ∷ a 8 1 ∷ []
 
 -- "Query `20 0001 01`, `21 0005 00000007 01`, `21 0005 00000009 02`"
-abbrev paperQuery : List ℕ
-paperQuery = (32 ∷ 0 ∷ 1 ∷ 1 ∷ []) ++ ((33 ∷ 0 ∷ 5 ∷ 0 ∷ 0 ∷ 0 ∷ 7 ∷ 1 ∷ []) ++ (33 ∷ 0 ∷ 5 ∷ 0 ∷ 0 ∷ 0 ∷ 9 ∷ 2 ∷ []))
+abbrev paper_query : List ℕ
+paper_query = (32 ∷ 0 ∷ 1 ∷ 1 ∷ []) ++ ((33 ∷ 0 ∷ 5 ∷ 0 ∷ 0 ∷ 0 ∷ 7 ∷ 1 ∷ []) ++ (33 ∷ 0 ∷ 5 ∷ 0 ∷ 0 ∷ 0 ∷ 9 ∷ 2 ∷ []))
 
 -- the query cut after n bytes
 abbrev cut : ℕ → ℕ → Case
-cut n at = case (take n paperQuery) (refused 1 at)
+cut n at = case (take n paper_query) (refused 1 at)
 
 abbrev accepts : Question → Case
-accepts x = case (questionBytes x) (done x)
+accepts x = case (question_bytes x) (done x)
 
 abbrev refuses : Question → ℕ → ℕ → Case
-refuses x number at = case (questionBytes x) (refused number at)
+refuses x number at = case (question_bytes x) (refused number at)
 
 abbrev pub cases : List Case
 cases =
-    case paperQuery (done (ask 1 (a 7 1 ∷ a 9 2 ∷ [])))
+    case paper_query (done (ask 1 (a 7 1 ∷ a 9 2 ∷ [])))
     -- 1: no byte; cut at each byte of a field
     ∷ case [] (refused 1 0)
     ∷ cut 1 0 ∷ cut 2 0 ∷ cut 3 0
@@ -51,13 +51,13 @@ cases =
     -- a field of another tag or length; k's field twice
     ∷ case (33 ∷ 0 ∷ 1 ∷ 1 ∷ []) (refused 1 0)
     ∷ case (32 ∷ 0 ∷ 2 ∷ 1 ∷ 1 ∷ []) (refused 1 0)
-    ∷ case (paperQuery ++ (33 ∷ 0 ∷ 6 ∷ 0 ∷ 0 ∷ 0 ∷ 8 ∷ 1 ∷ 1 ∷ [])) (refused 1 20)
-    ∷ case (paperQuery ++ (34 ∷ 0 ∷ 5 ∷ 0 ∷ 0 ∷ 0 ∷ 8 ∷ 1 ∷ [])) (refused 1 20)
-    ∷ case (paperQuery ++ (32 ∷ 0 ∷ 1 ∷ 1 ∷ [])) (refused 1 20)
+    ∷ case (paper_query ++ (33 ∷ 0 ∷ 6 ∷ 0 ∷ 0 ∷ 0 ∷ 8 ∷ 1 ∷ 1 ∷ [])) (refused 1 20)
+    ∷ case (paper_query ++ (34 ∷ 0 ∷ 5 ∷ 0 ∷ 0 ∷ 0 ∷ 8 ∷ 1 ∷ [])) (refused 1 20)
+    ∷ case (paper_query ++ (32 ∷ 0 ∷ 1 ∷ 1 ∷ [])) (refused 1 20)
     -- it comes first: before k, before a ninth term, before a weight of 0
-    ∷ case (questionBytes (ask 0 (a 7 1 ∷ [])) ++ (33 ∷ 0 ∷ 5 ∷ 0 ∷ [])) (refused 1 12)
-    ∷ case (questionBytes (ask 1 (eight ++ (a 9 1 ∷ []))) ++ (33 ∷ 0 ∷ 6 ∷ 0 ∷ 0 ∷ 0 ∷ 9 ∷ 1 ∷ 1 ∷ [])) (refused 1 76)
-    ∷ case (questionBytes (ask 1 (a 7 0 ∷ [])) ++ (33 ∷ [])) (refused 1 12)
+    ∷ case (question_bytes (ask 0 (a 7 1 ∷ [])) ++ (33 ∷ 0 ∷ 5 ∷ 0 ∷ [])) (refused 1 12)
+    ∷ case (question_bytes (ask 1 (eight ++ (a 9 1 ∷ []))) ++ (33 ∷ 0 ∷ 6 ∷ 0 ∷ 0 ∷ 0 ∷ 9 ∷ 1 ∷ 1 ∷ [])) (refused 1 76)
+    ∷ case (question_bytes (ask 1 (a 7 0 ∷ [])) ++ (33 ∷ [])) (refused 1 12)
     -- 2: k 0, 1, 100, 101; before a query of no term
     ∷ refuses (ask 0 (a 7 1 ∷ [])) 2 0
     ∷ accepts (ask 1 (a 7 1 ∷ []))
@@ -79,5 +79,5 @@ cases =
     ∷ []
 
 pub examples : map (λ (c : Case). asked c.query) cases ≡ map (λ (c : Case). c.gives) cases
-unfolding asked questionBytes termBytes judge fieldCount termCount termsIn isField whole fieldLen fieldBytes num be
+unfolding asked question_bytes term_bytes judge field_count term_count terms_in is_field whole field_len field_bytes num be
 examples = refl

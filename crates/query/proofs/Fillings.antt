@@ -4,32 +4,32 @@ use native.Mathlib.Omega.{arith}
 use mathlib.Core.Path.{◌≡◌, refl}
 use mathlib.Core.List.{List, [], ◌∷◌, map}
 use lib.ListN.{length, set, drop}
-use Rattle.model.specs.Limits.{maxTerms}
+use Rattle.model.specs.Limits.{max_terms}
 use Rattle.model.specs.Runs.{Stored, Holds}
 use Rattle.model.proofs.Lists.{map-length}
 use Rattle.model.proofs.Storing.{Rest, rest-start, rest-turn, rest_end, stored-holds}
-use Rattle.query.specs.Query.{Asked, termAt, askedIn, termsIn, question}
+use Rattle.query.specs.Query.{Asked, term_at, asked_in, terms_in, question}
 use Rattle.query.specs.Answers.{zeros, Carries}
 use Rattle.query.proofs.Parts.{terms-length, terms-none, terms-more}
 
 -- one number of each term: those from index i on are left to store
 module _ (f : Asked → ℕ) (s : List ℕ) (n : ℕ) where
   abbrev pub Part : (i : ℕ) → List ℕ → Type 0
-  Part i run = Rest zeros run 0 i (map f (termsIn n (drop 4 s))) (map f (termsIn (n - i) (drop (termAt i) s)))
+  Part i run = Rest zeros run 0 i (map f (terms_in n (drop 4 s))) (map f (terms_in (n - i) (drop (term_at i) s)))
 
   part-start : Part 0 zeros
-  part-start = let z : n - 0 ≡ n = omega arith in rw z (rest-start zeros 0 (map f (termsIn n (drop 4 s))))
+  part-start = let z : n - 0 ≡ n = omega arith in rw z (rest-start zeros 0 (map f (terms_in n (drop 4 s))))
 
-  part-turn : (i : ℕ) (run : List ℕ) → i < n → Part i run → Part (i + 1) (set run i (f (askedIn (drop (termAt i) s))))
+  part-turn : (i : ℕ) (run : List ℕ) → i < n → Part i run → Part (i + 1) (set run i (f (asked_in (drop (term_at i) s))))
   part-turn i run h p =
-      let x = f (askedIn (drop (termAt i) s)) in
+      let x = f (asked_in (drop (term_at i) s)) in
       let one : Stored run (set run i x) i (i + 1) (x ∷ []) = record { past = refl; whole = refl } in
-      rest-turn (x ∷ []) (map f (termsIn (n - (i + 1)) (drop (termAt (i + 1)) s))) (rw (terms-more n i s h)) p one
+      rest-turn (x ∷ []) (map f (terms_in (n - (i + 1)) (drop (term_at (i + 1)) s))) (rw (terms-more n i s h)) p one
 
-  part_end : (i : ℕ) (run : List ℕ) → n ≤ maxTerms → i ≡ n → Part i run → Holds zeros (map f (termsIn n (drop 4 s))) run n
+  part_end : (i : ℕ) (run : List ℕ) → n ≤ max_terms → i ≡ n → Part i run → Holds zeros (map f (terms_in n (drop 4 s))) run n
   part_end i run few e p =
-      let none : map f (termsIn (n - i) (drop (termAt i) s)) ≡ [] = rw (terms-none n i s (omega arith)) in
-      let size : length (map f (termsIn n (drop 4 s))) ≤ 8 = omega (arith, map-length f (termsIn n (drop 4 s)), terms-length n (drop 4 s)) in
+      let none : map f (terms_in (n - i) (drop (term_at i) s)) ≡ [] = rw (terms-none n i s (omega arith)) in
+      let size : length (map f (terms_in n (drop 4 s))) ≤ 8 = omega (arith, map-length f (terms_in n (drop 4 s)), terms-length n (drop 4 s)) in
       rw e at (stored-holds size (rest_end none p))
 
 -- both of them
@@ -38,20 +38,20 @@ pub record Filling (s : List ℕ) (n i : ℕ) (terms weights : List ℕ) : Type 
   pub termed : Part (λ a. a.term) s n i terms
   pub weighed : Part (λ a. a.weight) s n i weights
 
-pub filling-start : (s : List ℕ) (n : ℕ) → Filling s n 0 zeros zeros
-filling-start s n = record { below = omega arith; termed = part-start _ s n; weighed = part-start _ s n }
+pub filling_start : (s : List ℕ) (n : ℕ) → Filling s n 0 zeros zeros
+filling_start s n = record { below = omega arith; termed = part-start _ s n; weighed = part-start _ s n }
 
 module _ (s : List ℕ) (n i : ℕ) (terms weights : List ℕ) (c : Filling s n i terms weights) where
-  pub filling-turn : i < n → Filling s n (i + 1) (set terms i (askedIn (drop (termAt i) s)).term) (set weights i (askedIn (drop (termAt i) s)).weight)
-  filling-turn h =
+  pub filling_turn : i < n → Filling s n (i + 1) (set terms i (asked_in (drop (term_at i) s)).term) (set weights i (asked_in (drop (term_at i) s)).weight)
+  filling_turn h =
       record {
         below = omega arith;
         termed = part-turn (λ a. a.term) s n i terms h c.termed;
         weighed = part-turn (λ a. a.weight) s n i weights h c.weighed;
       }
 
-  pub filling-end : (k : ℕ) → n ≤ maxTerms → n ≤ i → Carries (question k n s) (record { k = k; n = n; terms = terms; weights = weights })
-  filling-end k few h =
+  pub filling_end : (k : ℕ) → n ≤ max_terms → n ≤ i → Carries (question k n s) (record { k = k; n = n; terms = terms; weights = weights })
+  filling_end k few h =
       let e : i ≡ n = omega (arith, c.below) in
       record {
         k = refl;

@@ -7,12 +7,12 @@ use mathlib.Core.Bool.{Bool, true, false, ◌&&◌}
 use borrow.Author.Tests.{leb-true, ltb-true, le-leb, lt-leb, eq-eqb, ne_eqb, lt-ltb, le-ltb}
 use lib.Dec.{leb, ltb}
 use lib.ListN.{length, drop}
-use Rattle.model.specs.Limits.{maxK, maxTerms}
+use Rattle.model.specs.Limits.{max_k, max_terms}
 use Rattle.model.specs.Outcome.{Outcome, refused, done, and_then}
 use Rattle.model.specs.Runs.{has}
 use Rattle.model.proofs.Lists.{and-true}
 use Rattle.wire.specs.Number.{num}
-use Rattle.query.specs.Query.{Question, termAt, askedIn, termsIn, question, fieldCount, unless, weighted, unrepeated, judge, asked}
+use Rattle.query.specs.Query.{Question, term_at, asked_in, terms_in, question, field_count, unless, weighted, unrepeated, judge, asked}
 use Rattle.query.specs.Answers.{paper, earlier, Carries, Tells}
 use Rattle.query.specs.declared.read.Query.{Query}
 use Rattle.query.specs.declared.read.QueryRead.{QueryRead}
@@ -23,38 +23,38 @@ use Rattle.query.proofs.Parts.{terms-length, terms-none, terms-more, earlier_mor
 
 -- ---- from the term field with index i on, of n
 
-abbrev pub weightedFrom : (n i : ℕ) → List ℕ → Outcome (Unit {0})
-weightedFrom n i s = weighted i (termsIn (n - i) (drop (termAt i) s))
+abbrev pub weighted_from : (n i : ℕ) → List ℕ → Outcome (Unit {0})
+weighted_from n i s = weighted i (terms_in (n - i) (drop (term_at i) s))
 
-abbrev pub unrepeatedFrom : (n i : ℕ) → List ℕ → Outcome (Unit {0})
-unrepeatedFrom n i s = unrepeated (earlier i s) i (termsIn (n - i) (drop (termAt i) s))
+abbrev pub unrepeated_from : (n i : ℕ) → List ℕ → Outcome (Unit {0})
+unrepeated_from n i s = unrepeated (earlier i s) i (terms_in (n - i) (drop (term_at i) s))
 
 -- from the first on they are all
-pub weights-start : (n : ℕ) (s : List ℕ) → weighted 0 (termsIn n (drop 4 s)) ≡ weightedFrom n 0 s
+pub weights-start : (n : ℕ) (s : List ℕ) → weighted 0 (terms_in n (drop 4 s)) ≡ weighted_from n 0 s
 weights-start n s = let z : n - 0 ≡ n = omega arith in rw z
 
-pub repeats-start : (n : ℕ) (s : List ℕ) → unrepeated [] 0 (termsIn n (drop 4 s)) ≡ unrepeatedFrom n 0 s
-repeats-start n s = let z : n - 0 ≡ n = omega arith in rw z
+pub repeats_start : (n : ℕ) (s : List ℕ) → unrepeated [] 0 (terms_in n (drop 4 s)) ≡ unrepeated_from n 0 s
+repeats_start n s = let z : n - 0 ≡ n = omega arith in rw z
 
 module _ (n i : ℕ) (s : List ℕ) where
-  pub weights-end : n ≤ i → weightedFrom n i s ≡ done tt
+  pub weights-end : n ≤ i → weighted_from n i s ≡ done tt
   weights-end h = rw (terms-none n i s h)
 
-  pub repeats-end : n ≤ i → unrepeatedFrom n i s ≡ done tt
-  repeats-end h = rw (terms-none n i s h)
+  pub repeats_end : n ≤ i → unrepeated_from n i s ≡ done tt
+  repeats_end h = rw (terms-none n i s h)
 
   module _ (h : i < n) where
-    pub weights-zero : (askedIn (drop (termAt i) s)).weight ≡ 0 → weightedFrom n i s ≡ refused 4 (termAt i)
-    weights-zero e = rw (terms-more n i s h, eq-eqb (askedIn (drop (termAt i) s)).weight 0 e)
+    pub weights-zero : (asked_in (drop (term_at i) s)).weight ≡ 0 → weighted_from n i s ≡ refused 4 (term_at i)
+    weights-zero e = rw (terms-more n i s h, eq-eqb (asked_in (drop (term_at i) s)).weight 0 e)
 
-    pub weights-next : ((askedIn (drop (termAt i) s)).weight ≡ 0 → ⊥) → weightedFrom n i s ≡ weightedFrom n (i + 1) s
-    weights-next e = rw (terms-more n i s h, ne_eqb (askedIn (drop (termAt i) s)).weight 0 e)
+    pub weights-next : ((asked_in (drop (term_at i) s)).weight ≡ 0 → ⊥) → weighted_from n i s ≡ weighted_from n (i + 1) s
+    weights-next e = rw (terms-more n i s h, ne_eqb (asked_in (drop (term_at i) s)).weight 0 e)
 
-    pub repeats-found : has (askedIn (drop (termAt i) s)).term (earlier i s) ≡ true → unrepeatedFrom n i s ≡ refused 5 (termAt i)
-    repeats-found e = rw (terms-more n i s h, e)
+    pub repeats_found : has (asked_in (drop (term_at i) s)).term (earlier i s) ≡ true → unrepeated_from n i s ≡ refused 5 (term_at i)
+    repeats_found e = rw (terms-more n i s h, e)
 
-    pub repeats-next : has (askedIn (drop (termAt i) s)).term (earlier i s) ≡ false → unrepeatedFrom n i s ≡ unrepeatedFrom n (i + 1) s
-    repeats-next e = rw (terms-more n i s h, e, earlier_more i s)
+    pub repeats_next : has (asked_in (drop (term_at i) s)).term (earlier i s) ≡ false → unrepeated_from n i s ≡ unrepeated_from n (i + 1) s
+    repeats_next e = rw (terms-more n i s h, e, earlier_more i s)
 
 -- ---- one after the other
 
@@ -63,70 +63,70 @@ told : (v w : Verdict) {r : Outcome (Unit {0})} → paper v ≡ r → v ≡ w �
 told v w e f = sym e ∙ ap paper f
 
 module _ (size k n : ℕ) (s : List ℕ) where
-  pub judge-no-k : k ≡ 0 → judge size (question k n s) ≡ refused 2 0
+  pub judge_no_k : k ≡ 0 → judge size (question k n s) ≡ refused 2 0
   unfolding judge
-  judge-no-k e = rw (le-ltb 0 k (omega arith))
+  judge_no_k e = rw (le-ltb 0 k (omega arith))
 
   module _ (some : k ≡ 0 → ⊥) where
-    pub judge-large-k : maxK < k → judge size (question k n s) ≡ refused 2 0
+    pub judge_large_k : max_k < k → judge size (question k n s) ≡ refused 2 0
     unfolding judge
-    judge-large-k h = rw (lt-ltb 0 k (omega arith), lt-leb k maxK h)
+    judge_large_k h = rw (lt-ltb 0 k (omega arith), lt-leb k max_k h)
 
-    module _ (small : k ≤ maxK) where
-      pub judge-no-term : n ≡ 0 → judge size (question k n s) ≡ refused 3 size
+    module _ (small : k ≤ max_k) where
+      pub judge_no_term : n ≡ 0 → judge size (question k n s) ≡ refused 3 size
       unfolding judge
-      judge-no-term e = rw (lt-ltb 0 k (omega arith), le-leb k maxK small, terms-length n (drop 4 s), le-ltb 0 n (omega arith))
+      judge_no_term e = rw (lt-ltb 0 k (omega arith), le-leb k max_k small, terms-length n (drop 4 s), le-ltb 0 n (omega arith))
 
       module _ (more : n ≡ 0 → ⊥) where
-        pub judge-many-terms : maxTerms < n → judge size (question k n s) ≡ refused 3 (termAt maxTerms)
+        pub judge_many_terms : max_terms < n → judge size (question k n s) ≡ refused 3 (term_at max_terms)
         unfolding judge
-        judge-many-terms h =
-            rw (lt-ltb 0 k (omega arith), le-leb k maxK small, terms-length n (drop 4 s), lt-ltb 0 n (omega arith), lt-leb n maxTerms h)
+        judge_many_terms h =
+            rw (lt-ltb 0 k (omega arith), le-leb k max_k small, terms-length n (drop 4 s), lt-ltb 0 n (omega arith), lt-leb n max_terms h)
 
-        pub judge-rest : n ≤ maxTerms → judge size (question k n s) ≡ and_then (weighted 0 (termsIn n (drop 4 s))) (λ ok. unrepeated [] 0 (termsIn n (drop 4 s)))
+        pub judge-rest : n ≤ max_terms → judge size (question k n s) ≡ and_then (weighted 0 (terms_in n (drop 4 s))) (λ ok. unrepeated [] 0 (terms_in n (drop 4 s)))
         unfolding judge
         judge-rest h =
-            rw (lt-ltb 0 k (omega arith), le-leb k maxK small, terms-length n (drop 4 s), lt-ltb 0 n (omega arith), le-leb n maxTerms h)
+            rw (lt-ltb 0 k (omega arith), le-leb k max_k small, terms-length n (drop 4 s), lt-ltb 0 n (omega arith), le-leb n max_terms h)
 
         -- by the verdict on the weights
-        module _ (few : n ≤ maxTerms) (v : Verdict) (e : paper v ≡ weighted 0 (termsIn n (drop 4 s))) where
+        module _ (few : n ≤ max_terms) (v : Verdict) (e : paper v ≡ weighted 0 (terms_in n (drop 4 s))) where
           pub judge-weight : (number at : ℕ) → v ≡ Bad number at → judge size (question k n s) ≡ refused number at
           judge-weight number at f = judge-rest few ∙ rw (told v (Bad number at) e f)
 
-          pub judge-repeat : v ≡ Good → judge size (question k n s) ≡ unrepeated [] 0 (termsIn n (drop 4 s))
-          judge-repeat f = judge-rest few ∙ rw (told v Good e f)
+          pub judge_repeat : v ≡ Good → judge size (question k n s) ≡ unrepeated [] 0 (terms_in n (drop 4 s))
+          judge_repeat f = judge-rest few ∙ rw (told v Good e f)
 
 -- ---- a question in which no fault was found
 
-pub then-done : {B : Type 0} (r : Outcome (Unit {0})) (f : Unit {0} → Outcome B) (y : B) → and_then r f ≡ done y → (r ≡ done tt) × (f tt ≡ done y)
-then-done (done u) f y e = (refl, e)
-then-done (refused number at) f y e = let z : ◌≡◌ {A = ℕ} 0 1 = cc in absurd (omega arith)
+pub then_done : {B : Type 0} (r : Outcome (Unit {0})) (f : Unit {0} → Outcome B) (y : B) → and_then r f ≡ done y → (r ≡ done tt) × (f tt ≡ done y)
+then_done (done u) f y e = (refl, e)
+then_done (refused number at) f y e = let z : ◌≡◌ {A = ℕ} 0 1 = cc in absurd (omega arith)
 
 unless-done : (t : Bool) (number at : ℕ) → unless t number at ≡ done tt → t ≡ true
 unless-done true number at e = refl
 unless-done false number at e = let z : ◌≡◌ {A = ℕ} 0 1 = cc in absurd (omega arith)
 
 pub record Faultless (x : Question) : Type 0 where
-  pub k-low : 0 < x.k
-  pub k-high : x.k ≤ maxK
+  pub k_low : 0 < x.k
+  pub k_high : x.k ≤ max_k
   pub some : 0 < length x.terms
-  pub few : length x.terms ≤ maxTerms
+  pub few : length x.terms ≤ max_terms
   pub weighed : weighted 0 x.terms ≡ done tt
   pub once : unrepeated [] 0 x.terms ≡ done tt
 
 pub faultless : (size : ℕ) (x : Question) → judge size x ≡ done tt → Faultless x
 unfolding judge
 faultless size x e =
-    let a = then-done (unless (ltb 0 x.k && leb x.k maxK) 2 0) _ tt e in
-    let b = then-done (unless (ltb 0 (length x.terms)) 3 size) _ tt a.1 in
-    let c = then-done (unless (leb (length x.terms) maxTerms) 3 (termAt maxTerms)) _ tt b.1 in
-    let d = then-done (weighted 0 x.terms) _ tt c.1 in
-    let k = and-true (ltb 0 x.k) (leb x.k maxK) (unless-done _ 2 0 a.0) in
+    let a = then_done (unless (ltb 0 x.k && leb x.k max_k) 2 0) _ tt e in
+    let b = then_done (unless (ltb 0 (length x.terms)) 3 size) _ tt a.1 in
+    let c = then_done (unless (leb (length x.terms) max_terms) 3 (term_at max_terms)) _ tt b.1 in
+    let d = then_done (weighted 0 x.terms) _ tt c.1 in
+    let k = and-true (ltb 0 x.k) (leb x.k max_k) (unless-done _ 2 0 a.0) in
     record {
-      k-low = ltb-true 0 x.k k.0;
-      k-high = leb-true x.k maxK k.1;
+      k_low = ltb-true 0 x.k k.0;
+      k_high = leb-true x.k max_k k.1;
       some = ltb-true 0 (length x.terms) (unless-done _ 3 size b.0);
-      few = leb-true (length x.terms) maxTerms (unless-done _ 3 (termAt maxTerms) c.0);
+      few = leb-true (length x.terms) max_terms (unless-done _ 3 (term_at max_terms) c.0);
       weighed = d.0;
       once = d.1;
     }
@@ -134,25 +134,25 @@ faultless size x e =
 -- ---- from the verdict on the fields and on the terms to the answer
 
 module _ (s : List ℕ) where
-  pub asked-wrong : (at : ℕ) → fieldCount s ≡ Wrong at → asked s ≡ refused 1 at
+  pub asked-wrong : (at : ℕ) → field_count s ≡ Wrong at → asked s ≡ refused 1 at
   unfolding asked
   asked-wrong at e = rw e
 
-  module _ (n k : ℕ) (e : fieldCount s ≡ Terms n) (first : k ≡ num 1 (drop 3 s)) (v : Verdict) (judged : paper v ≡ judge (length s) (question k n s)) where
-    pub asked-bad : (number at : ℕ) → v ≡ Bad number at → asked s ≡ refused number at
+  module _ (n k : ℕ) (e : field_count s ≡ Terms n) (first : k ≡ num 1 (drop 3 s)) (v : Verdict) (judged : paper v ≡ judge (length s) (question k n s)) where
+    pub asked_bad : (number at : ℕ) → v ≡ Bad number at → asked s ≡ refused number at
     unfolding asked
-    asked-bad number at f = rw (e, ← first, told v (Bad number at) judged f)
+    asked_bad number at f = rw (e, ← first, told v (Bad number at) judged f)
 
     pub asked-good : v ≡ Good → asked s ≡ done (question k n s)
     unfolding asked
     asked-good f = rw (e, ← first, told v Good judged f)
 
 -- there is room for the terms of an accepted query
-pub good-few : (size k n : ℕ) (s : List ℕ) (v : Verdict) → paper v ≡ judge size (question k n s) → v ≡ Good → n ≤ maxTerms
+pub good-few : (size k n : ℕ) (s : List ℕ) (v : Verdict) → paper v ≡ judge size (question k n s) → v ≡ Good → n ≤ max_terms
 good-few size k n s v e f = omega (arith, (faultless size (question k n s) (told v Good e f)).few, terms-length n (drop 4 s))
 
-pub tells-refused : (s : List ℕ) (number at : ℕ) (r : QueryRead) → asked s ≡ refused number at → Tells (refused number at) r → Tells (asked s) r
-tells-refused s number at r e t = rw e t
+pub tells_refused : (s : List ℕ) (number at : ℕ) (r : QueryRead) → asked s ≡ refused number at → Tells (refused number at) r → Tells (asked s) r
+tells_refused s number at r e t = rw e t
 
-pub tells-done : (s : List ℕ) (x : Question) (q : Query) → asked s ≡ done x → Carries x q → Tells (asked s) (record { verdict = Good; query = q })
-tells-done s x q e c = rw e (record { verdict = refl; query = c })
+pub tells_done : (s : List ℕ) (x : Question) (q : Query) → asked s ≡ done x → Carries x q → Tells (asked s) (record { verdict = Good; query = q })
+tells_done s x q e c = rw e (record { verdict = refl; query = c })

@@ -1,9 +1,9 @@
 -- The code's answers, by the definitions of a query. Assumes nothing.
 use Rattle.std.specs.Prelude.{ℕ, zero, suc, ◌≡◌, List, [], ◌∷◌, drop, replicate}
-use Rattle.model.specs.Limits.{maxTerms}
+use Rattle.model.specs.Limits.{max_terms}
 use Rattle.model.specs.Outcome.{Outcome, refused, done, and_then}
 use Rattle.model.specs.Runs.{Holds}
-use Rattle.query.specs.Query.{Question, termsOf, weightsOf, askedIn, termAt}
+use Rattle.query.specs.Query.{Question, terms_of, weights_of, asked_in, term_at}
 use Rattle.query.specs.declared.read.Query.{Query}
 use Rattle.query.specs.declared.read.QueryRead.{QueryRead}
 use Rattle.query.specs.declared.read.Verdict.{Verdict}
@@ -17,23 +17,23 @@ paper (Bad number at) = refused number at
 -- the terms of the first i term fields, the last of them first
 abbrev pub earlier : (i : ℕ) → List ℕ → List ℕ
 earlier zero s = []
-earlier (suc i) s = (askedIn (drop (termAt i) s)).term ∷ earlier i s
+earlier (suc i) s = (asked_in (drop (term_at i) s)).term ∷ earlier i s
 
 -- what is asked; nothing where the query is refused
-abbrev pub questionOf : Outcome Question → Question
-questionOf (done x) = x
-questionOf (refused number at) = record { k = 0; terms = [] }
+abbrev pub question_of : Outcome Question → Question
+question_of (done x) = x
+question_of (refused number at) = record { k = 0; terms = [] }
 
 abbrev pub zeros : List ℕ
-zeros = replicate maxTerms 0
+zeros = replicate max_terms 0
 
 -- the question as it is handed on: its terms and its weights at the front of two runs of zeros
 pub record Carries (x : Question) (q : Query) : Type 0 where
   pub k : q.k ≡ x.k
-  pub terms : Holds zeros (termsOf x.terms) q.terms q.n
-  pub weights : Holds zeros (weightsOf x.terms) q.weights q.n
+  pub terms : Holds zeros (terms_of x.terms) q.terms q.n
+  pub weights : Holds zeros (weights_of x.terms) q.weights q.n
 
 -- the answer for an outcome
 pub record Tells (o : Outcome Question) (r : QueryRead) : Type 0 where
   pub verdict : paper r.verdict ≡ and_then o (λ x. done tt)
-  pub query : Carries (questionOf o) r.query
+  pub query : Carries (question_of o) r.query

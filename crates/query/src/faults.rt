@@ -1,15 +1,15 @@
 // Refusals 2 to 5, in this order, of a query whose `n` term fields are all right.
 ghost use Rattle.std.specs.Prelude.{◌≡◌, [], ◌≤◌, length, drop};
 ghost use Rattle.model.specs.Runs.{has};
-ghost use Rattle.query.specs.Query.{termAt, termsIn, question, weighted, unrepeated, judge};
+ghost use Rattle.query.specs.Query.{term_at, terms_in, question, weighted, unrepeated, judge};
 ghost use Rattle.query.specs.Answers.{paper, earlier};
 
 use crate::read::Verdict;
 
 // 4: the first weight of 0.
 fn judge_weights(q: &[u8], n: usize) -> Verdict
-    requires { termAt n ≤ length q.now }
-    ensures { paper result ≡ weighted 0 (termsIn n (drop 4 q.now)) }
+    requires { term_at n ≤ length q.now }
+    ensures { paper result ≡ weighted 0 (terms_in n (drop 4 q.now)) }
 {
     let mut i = 0;
     while i < n {
@@ -23,7 +23,7 @@ fn judge_weights(q: &[u8], n: usize) -> Verdict
 
 // Whether one of the first `i` term fields has this term.
 fn is_earlier(q: &[u8], i: usize, term: u32) -> bool
-    requires { termAt i ≤ length q.now }
+    requires { term_at i ≤ length q.now }
     ensures { result ≡ has term (earlier i q.now) }
 {
     let mut j = i;
@@ -38,8 +38,8 @@ fn is_earlier(q: &[u8], i: usize, term: u32) -> bool
 
 // 5: the first term that an earlier field has.
 fn judge_repeats(q: &[u8], n: usize) -> Verdict
-    requires { termAt n ≤ length q.now }
-    ensures { paper result ≡ unrepeated [] 0 (termsIn n (drop 4 q.now)) }
+    requires { term_at n ≤ length q.now }
+    ensures { paper result ≡ unrepeated [] 0 (terms_in n (drop 4 q.now)) }
 {
     let mut i = 0;
     while i < n {
@@ -53,7 +53,7 @@ fn judge_repeats(q: &[u8], n: usize) -> Verdict
 
 // 2, 3, 4 and 5, each over the whole query before the next.
 pub(crate) fn judge_terms(q: &[u8], k: u8, n: usize) -> Verdict
-    requires { termAt n ≤ length q.now }
+    requires { term_at n ≤ length q.now }
     ensures { paper result ≡ judge (length q.now) (question k n q.now) }
 {
     if k == 0 {

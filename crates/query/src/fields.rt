@@ -1,7 +1,7 @@
 // The fields of a query: one of tag 20 for k, then one of tag 21 per term. A right field of k takes 4 bytes and one of a term 8, so the term field
 // with index `i` begins at 4 + 8 * i.
 ghost use Rattle.std.specs.Prelude.{◌≡◌, ◌+◌, ◌≤◌, length, drop};
-ghost use Rattle.query.specs.Query.{isField, askedIn, fieldCount, termAt};
+ghost use Rattle.query.specs.Query.{is_field, asked_in, field_count, term_at};
 
 use wire::field::FieldRead;
 
@@ -19,7 +19,7 @@ pub enum FieldsRead {
 
 // Whether a whole field of this tag and length begins at a place.
 fn is_field(q: &[u8], at: usize, tag: u8, len: usize) -> bool
-    ensures { result ≡ isField tag len (drop at q.now) }
+    ensures { result ≡ is_field tag len (drop at q.now) }
 {
     match wire::field::field(q, at, tag) {
         FieldRead::Whole(n) => n == len,
@@ -29,7 +29,7 @@ fn is_field(q: &[u8], at: usize, tag: u8, len: usize) -> bool
 
 // Passes over all fields up to the query's end: number 1 is judged over the whole query before any other.
 pub(crate) fn count_fields(q: &[u8]) -> FieldsRead
-    ensures { result ≡ fieldCount q.now }
+    ensures { result ≡ field_count q.now }
 {
     if !is_field(q, 0, TAG_K, 1) {
         return FieldsRead::Wrong(0);
@@ -48,16 +48,16 @@ pub(crate) fn count_fields(q: &[u8]) -> FieldsRead
 
 // The term of the term field with index `i`.
 pub(crate) fn term_of(q: &[u8], i: usize) -> u32
-    requires { termAt (i + 1) ≤ length q.now }
-    ensures { result ≡ (askedIn (drop (termAt i) q.now)).term }
+    requires { term_at (i + 1) ≤ length q.now }
+    ensures { result ≡ (asked_in (drop (term_at i) q.now)).term }
 {
     wire::number::be4(q, 4 + 8 * i + 3)
 }
 
 // Its weight.
 pub(crate) fn weight_of(q: &[u8], i: usize) -> u8
-    requires { termAt (i + 1) ≤ length q.now }
-    ensures { result ≡ (askedIn (drop (termAt i) q.now)).weight }
+    requires { term_at (i + 1) ≤ length q.now }
+    ensures { result ≡ (asked_in (drop (term_at i) q.now)).weight }
 {
     wire::number::be1(q, 4 + 8 * i + 7)
 }

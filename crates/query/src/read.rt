@@ -1,8 +1,8 @@
 // Reading a query: what it asks, or its refusal.
 ghost use Rattle.std.specs.Prelude.{◌≤◌, length};
-ghost use Rattle.model.specs.Limits.{maxTerms};
+ghost use Rattle.model.specs.Limits.{max_terms};
 ghost use Rattle.model.specs.Outcome.{refused};
-ghost use Rattle.query.specs.Query.{termAt, question, asked};
+ghost use Rattle.query.specs.Query.{term_at, question, asked};
 ghost use Rattle.query.specs.Answers.{Carries, Tells};
 
 use crate::fields::FieldsRead;
@@ -32,7 +32,7 @@ pub struct QueryRead {
 
 // What the first `n` term fields ask.
 fn take_terms(q: &[u8], k: u8, n: usize) -> Query
-    requires { (n ≤ maxTerms) × (termAt n ≤ length q.now) }
+    requires { (n ≤ max_terms) × (term_at n ≤ length q.now) }
     ensures { Carries (question k n q.now) result }
 {
     let mut terms = [0u32; 8];

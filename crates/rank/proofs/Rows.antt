@@ -12,7 +12,7 @@ use borrow.Author.Tests.{ltb-true, ltb-false}
 use Rattle.model.proofs.Lists.{split}
 use Rattle.rank.specs.Rank.{Hit, ahead, insert, keep, kth, Ordered}
 use Rattle.model.specs.Post.{docs, scores, post, postings}
-use Rattle.rank.proofs.Ranks.{insert-ordered, take-ordered}
+use Rattle.rank.proofs.Ranks.{insert_ordered, take_ordered}
 use Rattle.rank.proofs.Places.{insert-at, behind-before}
 use Rattle.rank.specs.Keep.{put_at}
 
@@ -64,11 +64,11 @@ rows-length [] ss e = refl
 rows-length (d ∷ ds) [] e = absurd (omega arith)
 rows-length (d ∷ ds) (s ∷ ss) e = ap suc (rows-length ds ss (omega arith))
 
-pub rows-getD : (ds ss : List ℕ) (i : ℕ) → i < length ds → i < length ss → get_or (postings ds ss) i (post 0 0) ≡ post (get_or ds i 0) (get_or ss i 0)
-rows-getD [] ss i l m = absurd (omega arith)
-rows-getD (d ∷ ds) [] i l m = absurd (omega arith)
-rows-getD (d ∷ ds) (s ∷ ss) zero l m = refl
-rows-getD (d ∷ ds) (s ∷ ss) (suc i) l m = rows-getD ds ss i (omega arith) (omega arith)
+pub rows_get_d : (ds ss : List ℕ) (i : ℕ) → i < length ds → i < length ss → get_or (postings ds ss) i (post 0 0) ≡ post (get_or ds i 0) (get_or ss i 0)
+rows_get_d [] ss i l m = absurd (omega arith)
+rows_get_d (d ∷ ds) [] i l m = absurd (omega arith)
+rows_get_d (d ∷ ds) (s ∷ ss) zero l m = refl
+rows_get_d (d ∷ ds) (s ∷ ss) (suc i) l m = rows_get_d ds ss i (omega arith) (omega arith)
 
 pub rows_take : (n : ℕ) (ds ss : List ℕ) → take n (postings ds ss) ≡ postings (take n ds) (take n ss)
 rows_take zero ds ss = refl
@@ -76,12 +76,12 @@ rows_take (suc n) [] ss = refl
 rows_take (suc n) (d ∷ ds) [] = refl
 rows_take (suc n) (d ∷ ds) (s ∷ ss) = ap {B = List Hit} (λ t. post d s ∷ t) (rows_take n ds ss)
 
-pub rows-put : (p d s : ℕ) (ds ss : List ℕ) → length ds ≡ length ss → postings (put_at p d ds) (put_at p s ss) ≡ put_at p (post d s) (postings ds ss)
-rows-put zero d s ds ss e = refl
-rows-put (suc p) d s [] [] e = refl
-rows-put (suc p) d s [] (t ∷ ss) e = absurd (omega arith)
-rows-put (suc p) d s (c ∷ ds) [] e = absurd (omega arith)
-rows-put (suc p) d s (c ∷ ds) (t ∷ ss) e = ap {B = List Hit} (λ u. post c t ∷ u) (rows-put p d s ds ss (omega arith))
+pub rows_put : (p d s : ℕ) (ds ss : List ℕ) → length ds ≡ length ss → postings (put_at p d ds) (put_at p s ss) ≡ put_at p (post d s) (postings ds ss)
+rows_put zero d s ds ss e = refl
+rows_put (suc p) d s [] [] e = refl
+rows_put (suc p) d s [] (t ∷ ss) e = absurd (omega arith)
+rows_put (suc p) d s (c ∷ ds) [] e = absurd (omega arith)
+rows_put (suc p) d s (c ∷ ds) (t ∷ ss) e = ap {B = List Hit} (λ u. post c t ∷ u) (rows_put p d s ds ss (omega arith))
 
 -- The whole of `keep`
 pub keep-rows : (ds ss : List ℕ) (n k p e d s : ℕ) → length ds ≡ length ss → n ≤ length ds → p ≤ n → p < e → n ≤ k → e ≤ length ds
@@ -94,7 +94,7 @@ keep-rows ds ss n k p e d s same fits pn pe nk ef ends ins =
     let lr : length (postings ds ss) ≡ length ds = rows-length ds ss same in
     rw (rows_take e (take e (put_at p d ds) ++ drop e ds) (take e (put_at p s ss) ++ drop e ss), take_at (take e (put_at p d ds)) (drop e ds) e (length-take-le e (put_at p d ds) (omega arith)), take_at (take e (put_at p s ss)) (drop e ss) e (length-take-le e (put_at p s ss) (omega arith)))
     (sym (rows_take e (put_at p d ds) (put_at p s ss))
-    ∙ ap (take e) (rows-put p d s ds ss same)
+    ∙ ap (take e) (rows_put p d s ds ss same)
     ∙ cut (put_at p (post d s) (postings ds ss))
     ∙ ap (take k) (sym (put-take p n (post d s) (postings ds ss) pn (omega arith)) ∙ sym ins))
   where
@@ -121,8 +121,8 @@ keep-behind xs k j h l s o e =
     (insert-at h (post 0 0) k xs (omega arith) (rw (sym s) at (behind-before h (post 0 0) j xs o (omega arith) e)) (λ m. absurd (omega arith)))
 
 -- a keeper in order stays so
-pub keep-ordered : (k : ℕ) (xs : List Hit) (h : Hit) → Ordered xs → Ordered (keep k xs h)
-keep-ordered k xs h o = take-ordered k (insert h xs) (insert-ordered h xs o)
+pub keep_ordered : (k : ℕ) (xs : List Hit) (h : Hit) → Ordered xs → Ordered (keep k xs h)
+keep_ordered k xs h o = take_ordered k (insert h xs) (insert_ordered h xs o)
 
 -- the kth score of the kept rows stands in the run of scores
 pub scores-rows : (n : ℕ) (ds ss : List ℕ) → length ds ≡ length ss → scores (take n (postings ds ss)) ≡ take n ss
@@ -144,5 +144,5 @@ kth-rows k n ds ss e = ap {B = ℕ} (λ t. get_or t (k - 1) 0) (scores-rows n ds
 pub kth-few : (k n : ℕ) (ss : List ℕ) → n < k → 0 ≡ get_or (take n ss) (k - 1) 0
 kth-few k n ss l = sym (get_or-eq_default (take n ss) 0 (rw length-take (omega arith)))
 
-pub kth-full : (k n : ℕ) (ss : List ℕ) → 0 < k → k ≤ n → get_or ss (k - 1) 0 ≡ get_or (take n ss) (k - 1) 0
-kth-full k n ss l m = sym (get_or-take n ss (k - 1) 0 (omega arith))
+pub kth_full : (k n : ℕ) (ss : List ℕ) → 0 < k → k ≤ n → get_or ss (k - 1) 0 ≡ get_or (take n ss) (k - 1) 0
+kth_full k n ss l m = sym (get_or-take n ss (k - 1) 0 (omega arith))

@@ -6,9 +6,9 @@ use mathlib.Core.List.{List, [], ◌∷◌, ◌++◌}
 use native.Mathlib.Omega.{arith}
 use lib.Dec.{leb}
 use borrow.Author.Tests.{leb-true, leb-false, le-leb, lt-leb}
-use Rattle.model.specs.Post.{Rising, lastDoc}
+use Rattle.model.specs.Post.{Rising, last_doc}
 use Rattle.model.specs.Runs.{All}
-use Rattle.model.proofs.Lists.{split, All-map}
+use Rattle.model.proofs.Lists.{split, All_map}
 use Rattle.rank.specs.Rank.{Hit}
 use Rattle.rank.specs.Match.{inside, within}
 use Rattle.rank.proofs.Matches.{inside-first, inside-last}
@@ -16,13 +16,13 @@ use Rattle.rank.proofs.Matches.{inside-first, inside-last}
 -- Docids that rise
 pub rising-above : (n : ℕ) (hs : List Hit) → Rising n hs → All (λ h. n < h.doc) hs
 rising-above n [] r = tt
-rising-above n (h ∷ hs) r = (r.0, All-map hs (λ x l. omega arith) (rising-above h.doc hs r.1))
+rising-above n (h ∷ hs) r = (r.0, All_map hs (λ x l. omega arith) (rising-above h.doc hs r.1))
 
 pub rising-front : (n : ℕ) (xs ys : List Hit) → Rising n (xs ++ ys) → Rising n xs
 rising-front n [] ys r = tt
 rising-front n (x ∷ xs) ys r = (r.0, rising-front x.doc xs ys r.1)
 
-pub rising-rest : (n : ℕ) (xs ys : List Hit) → Rising n (xs ++ ys) → Rising (lastDoc n xs) ys
+pub rising-rest : (n : ℕ) (xs ys : List Hit) → Rising n (xs ++ ys) → Rising (last_doc n xs) ys
 rising-rest n [] ys r = r
 rising-rest n (x ∷ xs) ys r = rising-rest x.doc xs ys r.1
 
@@ -55,7 +55,7 @@ within-split n lo c hi (h ∷ hs) p l m r =
     (λ f. let k : h.doc ≤ c - 1 = leb-true _ _ f in
     rw (e, f, lt-leb c h.doc (omega arith), le-leb h.doc hi (omega arith)) (ap {B = List Hit} (λ t. h ∷ t) below))
     (λ f. let k : c - 1 < h.doc = leb-false _ _ f in
-    let none : within lo (c - 1) hs ≡ [] = within_none lo (c - 1) hs (All-map hs (λ x d. omega arith) (rising-above h.doc hs r.1)) in
+    let none : within lo (c - 1) hs ≡ [] = within_none lo (c - 1) hs (All_map hs (λ x d. omega arith) (rising-above h.doc hs r.1)) in
     let same : within c hi hs ≡ within lo hi hs = rw none at below in
     rw (e, f, le-leb c h.doc (omega arith), none, same)))
     (λ e. let k : h.doc < lo = leb-false _ _ e in rw (e, lt-leb c h.doc (omega arith)) below)
@@ -65,25 +65,25 @@ within-whole lo hi [] all = refl
 within-whole lo hi (h ∷ hs) all =
     rw (le-leb lo h.doc all.0.0, le-leb h.doc hi all.0.1) (ap {B = List Hit} (λ t. h ∷ t) (within-whole lo hi hs all.1))
 
-rising-weaken : (m n : ℕ) (hs : List Hit) → m ≤ n → Rising n hs → Rising m hs
-rising-weaken m n [] l r = tt
-rising-weaken m n (h ∷ hs) l r = (omega arith, r.1)
+rising_weaken : (m n : ℕ) (hs : List Hit) → m ≤ n → Rising n hs → Rising m hs
+rising_weaken m n [] l r = tt
+rising_weaken m n (h ∷ hs) l r = (omega arith, r.1)
 
 pub within-rising : (n lo hi : ℕ) (hs : List Hit) → Rising n hs → Rising n (within lo hi hs)
 within-rising n lo hi [] r = tt
 within-rising n lo hi (h ∷ hs) r =
     let more : Rising h.doc (within lo hi hs) = within-rising h.doc lo hi hs r.1 in
-    split (inside lo hi h.doc) (λ e. rw e (r.0, more)) (λ e. rw e (rising-weaken n h.doc (within lo hi hs) (omega arith) more))
+    split (inside lo hi h.doc) (λ e. rw e (r.0, more)) (λ e. rw e (rising_weaken n h.doc (within lo hi hs) (omega arith) more))
 
-pub within-range : (n lo hi : ℕ) (hs : List Hit) → Rising n hs → All (λ h. (lo ≤ h.doc) × (h.doc ≤ hi)) (within lo hi hs)
-within-range n lo hi hs r =
+pub within_range : (n lo hi : ℕ) (hs : List Hit) → Rising n hs → All (λ h. (lo ≤ h.doc) × (h.doc ≤ hi)) (within lo hi hs)
+within_range n lo hi hs r =
     within_all (λ h. (lo ≤ h.doc) × (h.doc ≤ hi)) (λ h. n < h.doc) lo hi hs
     (λ h i w. (inside-first lo hi h.doc i, inside-last lo hi h.doc i)) (rising-above n hs r)
 
 -- the stretch up to below its first docid is empty
-pub within-empty : (lo hi : ℕ) (hs : List Hit) → hi < lo → within lo hi hs ≡ []
-within-empty lo hi [] l = refl
-within-empty lo hi (h ∷ hs) l =
+pub within_empty : (lo hi : ℕ) (hs : List Hit) → hi < lo → within lo hi hs ≡ []
+within_empty lo hi [] l = refl
+within_empty lo hi (h ∷ hs) l =
     split (leb lo h.doc)
-    (λ e. let k : lo ≤ h.doc = leb-true _ _ e in rw (e, lt-leb h.doc hi (omega arith)) (within-empty lo hi hs l))
-    (λ e. rw e (within-empty lo hi hs l))
+    (λ e. let k : lo ≤ h.doc = leb-true _ _ e in rw (e, lt-leb h.doc hi (omega arith)) (within_empty lo hi hs l))
+    (λ e. rw e (within_empty lo hi hs l))

@@ -2,9 +2,9 @@
 ghost use Rattle.std.specs.Prelude.{◌≤◌, length};
 ghost use Rattle.model.specs.Runs.{Holds};
 ghost use Rattle.lines.specs.Text.{codes, text};
-ghost use Rattle.lines.specs.Book.{maxOutput};
+ghost use Rattle.lines.specs.Book.{max_output};
 ghost use Rattle.lines.specs.Said.{Speaks};
-ghost use Rattle.report.specs.Report.{searchShown, reported, told, Printable, Room};
+ghost use Rattle.report.specs.Report.{search_shown, reported, told, Printable, Room};
 
 use exhaustive::all::Verdict;
 use lines::said::{Said, Start};
@@ -21,7 +21,7 @@ fn print<'a>(
     ceilings: &'a [u32],
     marks: &'a [u8],
 ) -> usize
-    requires { (maxOutput ≤ length out.old) × Printable found.verdict found firsts.now ceilings.now marks.now }
+    requires { (max_output ≤ length out.old) × Printable found.verdict found firsts.now ceilings.now marks.now }
     ensures { Holds out.old (text (told found.verdict found firsts.now ceilings.now marks.now)) out.new result }
 {
     let verdict = found.verdict;
@@ -57,7 +57,7 @@ fn show<'a>(
     out: &mut [u8],
 ) -> usize
     requires { Room firsts.old ceilings.old marks.old out.old }
-    ensures { Holds out.old (text (searchShown query.now shelf.now)) out.new result }
+    ensures { Holds out.old (text (search_shown query.now shelf.now)) out.new result }
 {
     let found = pruned::search::search(query, shelf, 100, firsts, ceilings, marks);
     print(out, found, firsts, ceilings, marks)
@@ -65,7 +65,7 @@ fn show<'a>(
 
 // The output for an input that was read, at the front of `out`.
 fn report(input: &[u8], out: &mut [u8]) -> usize
-    requires { maxOutput ≤ length out.old }
+    requires { max_output ≤ length out.old }
     ensures { Holds out.old (reported input.now) out.new result }
 {
     if MAX_INPUT < input.len() {

@@ -9,10 +9,10 @@ use lib.ListN.{length, take, drop, get_or, set, take-append-drop}
 use lib.Seq.{drop-cons}
 use borrow.Author.Tests.{eq-eqb, ne_eqb}
 use Rattle.model.specs.Runs.{All}
-use Rattle.model.proofs.Lists.{map-turn, map-stay, map-here}
+use Rattle.model.proofs.Lists.{map-turn, map_stay, map-here}
 use Rattle.scan.specs.declared.head.Head.{Head}
 use Rattle.rank.specs.Run.{none}
-use Rattle.scan.specs.Heads.{blank, OwnPart, OwnParts, least, sum_at, nextHead, stepIf}
+use Rattle.scan.specs.Heads.{blank, OwnPart, OwnParts, least, sum_at, next_head, step_if}
 use Rattle.scan.specs.Run.{Idle}
 
 -- The smallest docid
@@ -35,7 +35,7 @@ sum-idle : (d : ℕ) (hs : List Head) → d < none → All (λ h. none ≤ h.doc
 sum-idle d [] l a = refl
 sum-idle d (h ∷ hs) l a = rw (ne_eqb h.doc d (λ e. omega (arith, a.0)), sum-idle d hs l a.1)
 
-step-idle : (ds ss : List ℕ) (d : ℕ) (hs : List Head) → d < none → All (λ h. none ≤ h.doc) hs → map (stepIf ds ss d) hs ≡ hs
+step-idle : (ds ss : List ℕ) (d : ℕ) (hs : List Head) → d < none → All (λ h. none ≤ h.doc) hs → map (step_if ds ss d) hs ≡ hs
 step-idle ds ss d [] l a = refl
 step-idle ds ss d (h ∷ hs) l a = rw (ne_eqb h.doc d (λ e. omega (arith, a.0)), step-idle ds ss d hs l a.1)
 
@@ -45,13 +45,13 @@ least-past hs i m a t = rw (least-idle (drop i hs) a) (min-eq_left t)
 pub sum_past : (d : ℕ) (hs : List Head) (i m : ℕ) → d < none → Idle i hs → m + sum_at d (drop i hs) ≡ m
 sum_past d hs i m l a = rw (sum-idle d (drop i hs) l a) (omega arith)
 
-pub step_past : (ds ss : List ℕ) (d : ℕ) (hs : List Head) (i : ℕ) → d < none → Idle i hs → map (stepIf ds ss d) (take i hs) ++ drop i hs ≡ map (stepIf ds ss d) hs
+pub step_past : (ds ss : List ℕ) (d : ℕ) (hs : List Head) (i : ℕ) → d < none → Idle i hs → map (step_if ds ss d) (take i hs) ++ drop i hs ≡ map (step_if ds ss d) hs
 step_past ds ss d hs i l a =
-    ap {B = List Head} (λ t. map (stepIf ds ss d) (take i hs) ++ t) (sym (step-idle ds ss d (drop i hs) l a))
-    ∙ sym (map-append (stepIf ds ss d) (take i hs) (drop i hs))
-    ∙ ap (map (stepIf ds ss d)) (take-append-drop i hs)
+    ap {B = List Head} (λ t. map (step_if ds ss d) (take i hs) ++ t) (sym (step-idle ds ss d (drop i hs) l a))
+    ∙ sym (map-append (step_if ds ss d) (take i hs) (drop i hs))
+    ∙ ap (map (step_if ds ss d)) (take-append-drop i hs)
 
-pub idle-step : (ds ss : List ℕ) (d : ℕ) (hs : List Head) (i : ℕ) → d < none → Idle i hs → Idle i (map (stepIf ds ss d) hs)
+pub idle-step : (ds ss : List ℕ) (d : ℕ) (hs : List Head) (i : ℕ) → d < none → Idle i hs → Idle i (map (step_if ds ss d) hs)
 idle-step ds ss d hs zero l a = rw (step-idle ds ss d hs l a) a
 idle-step ds ss d [] (suc i) l a = tt
 idle-step ds ss d (h ∷ hs) (suc i) l a = idle-step ds ss d hs i l a
@@ -66,20 +66,20 @@ sum-turn d hs i m l e = rw (add-one i, drop-cons hs i blank l, eq-eqb (get_or hs
 pub sum-pass : (d : ℕ) (hs : List Head) (i m : ℕ) → i < length hs → ((get_or hs i blank).doc ≡ d → ⊥) → m + sum_at d (drop i hs) ≡ m + sum_at d (drop (i + 1) hs)
 sum-pass d hs i m l e = rw (add-one i, drop-cons hs i blank l, ne_eqb (get_or hs i blank).doc d e) (omega arith)
 
-pub All-at : (P : Head → Type 0) (hs : List Head) (i : ℕ) → i < length hs → All P hs → P (get_or hs i blank)
-All-at P [] i l a = absurd (omega arith)
-All-at P (h ∷ hs) zero l a = a.0
-All-at P (h ∷ hs) (suc i) l a = All-at P hs i (omega arith) a.1
+pub All_at : (P : Head → Type 0) (hs : List Head) (i : ℕ) → i < length hs → All P hs → P (get_or hs i blank)
+All_at P [] i l a = absurd (omega arith)
+All_at P (h ∷ hs) zero l a = a.0
+All_at P (h ∷ hs) (suc i) l a = All_at P hs i (omega arith) a.1
 
 -- One turn of the second pass
-module _ (ds ss : List ℕ) (d : ℕ) (heads hs : List Head) (i : ℕ) (l : i < length heads) (inv : hs ≡ map (stepIf ds ss d) (take i heads) ++ drop i heads) where
+module _ (ds ss : List ℕ) (d : ℕ) (heads hs : List Head) (i : ℕ) (l : i < length heads) (inv : hs ≡ map (step_if ds ss d) (take i heads) ++ drop i heads) where
   here : get_or hs i blank ≡ get_or heads i blank
-  here = rw inv (map-here blank (stepIf ds ss d) heads i l)
+  here = rw inv (map-here blank (step_if ds ss d) heads i l)
 
-  pub step-turn : (get_or hs i blank).doc ≡ d → set hs i (nextHead ds ss (get_or hs i blank)) ≡ map (stepIf ds ss d) (take (i + 1) heads) ++ drop (i + 1) heads
+  pub step-turn : (get_or hs i blank).doc ≡ d → set hs i (next_head ds ss (get_or hs i blank)) ≡ map (step_if ds ss d) (take (i + 1) heads) ++ drop (i + 1) heads
   step-turn t =
-      let f : stepIf ds ss d (get_or heads i blank) ≡ nextHead ds ss (get_or heads i blank) = rw (eq-eqb (get_or heads i blank).doc d (rw here at t)) in
-      rw (here, ← f, inv) (map-turn blank (stepIf ds ss d) heads i l)
+      let f : step_if ds ss d (get_or heads i blank) ≡ next_head ds ss (get_or heads i blank) = rw (eq-eqb (get_or heads i blank).doc d (rw here at t)) in
+      rw (here, ← f, inv) (map-turn blank (step_if ds ss d) heads i l)
 
   pub sum-here : (s t : ℕ) → sum_at d heads ≡ s + sum_at d (drop i heads) → (get_or hs i blank).doc ≡ d → t ≡ s + (get_or hs i blank).weight * (get_or hs i blank).score
       → sum_at d heads ≡ t + sum_at d (drop (i + 1) heads)
@@ -87,18 +87,18 @@ module _ (ds ss : List ℕ) (d : ℕ) (heads hs : List Head) (i : ℕ) (l : i < 
       let u : t ≡ s + (get_or heads i blank).weight * (get_or heads i blank).score = rw here at p in
       q ∙ sum-turn d heads i s l (rw here at e) ∙ ap {B = ℕ} (λ v. v + sum_at d (drop (i + 1) heads)) (sym u)
 
-  pub sum-stay : (s : ℕ) → sum_at d heads ≡ s + sum_at d (drop i heads) → ((get_or hs i blank).doc ≡ d → ⊥) → sum_at d heads ≡ s + sum_at d (drop (i + 1) heads)
-  sum-stay s q e = q ∙ sum-pass d heads i s l (rw here at e)
+  pub sum_stay : (s : ℕ) → sum_at d heads ≡ s + sum_at d (drop i heads) → ((get_or hs i blank).doc ≡ d → ⊥) → sum_at d heads ≡ s + sum_at d (drop (i + 1) heads)
+  sum_stay s q e = q ∙ sum-pass d heads i s l (rw here at e)
 
-  pub step-stay : ((get_or hs i blank).doc ≡ d → ⊥) → hs ≡ map (stepIf ds ss d) (take (i + 1) heads) ++ drop (i + 1) heads
-  step-stay t = inv ∙ map-stay blank (stepIf ds ss d) heads i l (rw (ne_eqb (get_or heads i blank).doc d (rw here at t)))
+  pub step_stay : ((get_or hs i blank).doc ≡ d → ⊥) → hs ≡ map (step_if ds ss d) (take (i + 1) heads) ++ drop (i + 1) heads
+  step_stay t = inv ∙ map_stay blank (step_if ds ss d) heads i l (rw (ne_eqb (get_or heads i blank).doc d (rw here at t)))
 
 pub own-set : (t : ℕ) (hs : List Head) (i : ℕ) (h : Head) → ((u : ℕ) → OwnPart u (get_or hs i blank) → OwnPart u h) → OwnParts t hs → OwnParts t (set hs i h)
 own-set t [] i h f o = tt
 own-set t (x ∷ hs) zero h f o = (f t o.0, o.1)
 own-set t (x ∷ hs) (suc i) h f o = (o.0, own-set (suc t) hs i h f o.1)
 
-pub All-set : (P : Head → Type 0) (hs : List Head) (i : ℕ) (h : Head) → All P hs → P h → All P (set hs i h)
-All-set P [] i h a p = tt
-All-set P (x ∷ hs) zero h a p = (p, a.1)
-All-set P (x ∷ hs) (suc i) h a p = (a.0, All-set P hs i h a.1 p)
+pub All_set : (P : Head → Type 0) (hs : List Head) (i : ℕ) (h : Head) → All P hs → P h → All P (set hs i h)
+All_set P [] i h a p = tt
+All_set P (x ∷ hs) zero h a p = (p, a.1)
+All_set P (x ∷ hs) (suc i) h a p = (a.0, All_set P hs i h a.1 p)

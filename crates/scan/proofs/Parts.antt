@@ -36,6 +36,6 @@ pub slice_over : (vs l : List ℕ) (a f t : ℕ) → a + length vs ≤ f → sli
 slice_over [] l a f t h = refl
 slice_over (v ∷ vs) l a f t h = slice_over vs (set l a v) (suc a) f t (omega arith) ∙ slice_set l a f t v (omega arith)
 
-pub slice-apart : (vs l : List ℕ) (a f t : ℕ) → (t ≤ a) ⊎ (a + length vs ≤ f) → slice f t (sets l a vs) ≡ slice f t l
-slice-apart vs l a f t (inl h) = slice-under vs l a f t h
-slice-apart vs l a f t (inr h) = slice_over vs l a f t h
+pub slice_apart : (vs l : List ℕ) (a f t : ℕ) → (t ≤ a) ⊎ (a + length vs ≤ f) → slice f t (sets l a vs) ≡ slice f t l
+slice_apart vs l a f t (inl h) = slice-under vs l a f t h
+slice_apart vs l a f t (inr h) = slice_over vs l a f t h

@@ -1,10 +1,10 @@
 -- A block loaded: its postings as far as they read stand in its list's part of the buffers, and the list's head at the first of them. Assumes nothing.
 use Rattle.std.specs.Prelude.{ℕ, ◌+◌, ◌≤◌, ◌<◌, ◌≡◌, cond, List, [], ◌∷◌, length}
 use Rattle.std.proofs.lemmas.List.Edits.{sets}
-use Rattle.model.specs.Limits.{maxDocid, perBlock, maxTerms}
+use Rattle.model.specs.Limits.{max_docid, per_block, max_terms}
 use Rattle.model.specs.Post.{Post, docs, scores}
 use Rattle.rank.specs.Run.{none}
-use Rattle.block.specs.Body.{rightBody, bodyRun}
+use Rattle.block.specs.Body.{right_body, body_run}
 use Rattle.block.specs.declared.summary.Summary.{Summary}
 use Rattle.scan.specs.Heads.{roomy, part_of}
 use Rattle.scan.specs.declared.head.Head.{Head}
@@ -14,10 +14,10 @@ use Rattle.scan.specs.declared.load.Loaded.TheVariants.{Stands, Wrong}
 -- what a right summary says, and a list that has a part
 pub record Loadable (m : Summary) (t : ℕ) (ds ss : List ℕ) : Type 0 where
   pub some : 0 < m.count
-  pub most : m.count ≤ perBlock
+  pub most : m.count ≤ per_block
   pub order : m.least ≤ m.greatest
-  pub below : m.greatest ≤ maxDocid
-  pub mine : t < maxTerms
+  pub below : m.greatest ≤ max_docid
+  pub mine : t < max_terms
   pub docids : length ds ≡ roomy
   pub scored : length ss ≡ roomy
 
@@ -27,6 +27,6 @@ head_of weight t [] = record { doc = none; score = 0; weight = weight; at = part
 head_of weight t (p ∷ ps) = record { doc = p.doc; score = p.score; weight = weight; at = part_of t + 1; end = part_of t + length (p ∷ ps) }
 
 pub record Loads (m : Summary) (body : List ℕ) (weight t : ℕ) (ds ss ds' ss' : List ℕ) (r : Loaded) : Type 0 where
-  pub answer : r ≡ cond (rightBody m body) (Stands (head_of weight t (bodyRun m body))) Wrong
-  pub docids : ds' ≡ sets ds (part_of t) (docs (bodyRun m body))
-  pub scored : ss' ≡ sets ss (part_of t) (scores (bodyRun m body))
+  pub answer : r ≡ cond (right_body m body) (Stands (head_of weight t (body_run m body))) Wrong
+  pub docids : ds' ≡ sets ds (part_of t) (docs (body_run m body))
+  pub scored : ss' ≡ sets ss (part_of t) (scores (body_run m body))

@@ -1,7 +1,7 @@
 // The head of a query's list: where the list is read. A list's block stands in two buffers, of docids and of scores, in the list's own part of them.
 ghost use Rattle.std.specs.Prelude.{◌≡◌, ◌≤◌};
 ghost use Rattle.rank.specs.Run.{none};
-ghost use Rattle.scan.specs.Heads.{nextHead, InBuffers, Skipped};
+ghost use Rattle.scan.specs.Heads.{next_head, InBuffers, Skipped};
 
 // Past the last docid: the docid of a head whose list is at its end.
 pub const END: u32 = model::MAX_DOCID + 1;
@@ -20,7 +20,7 @@ impl Head {
     // The head at its list's next posting.
     pub fn next(self, docs: &[u32; 800], scores: &[u16; 800]) -> Head
         requires { InBuffers docs.now scores.now self }
-        ensures { result ≡ nextHead docs.now scores.now self }
+        ensures { result ≡ next_head docs.now scores.now self }
     {
         let at = self.at;
         let end = self.end;

@@ -1,8 +1,8 @@
 -- The private answers of the walk's code, by the walk's definitions. Assumes nothing.
 use Rattle.std.specs.Prelude.{ℕ, ◌+◌, ◌*◌, ◌≤◌, ◌≡◌, List, cond, length, drop}
-use Rattle.model.specs.Limits.{perList}
+use Rattle.model.specs.Limits.{per_list}
 use Rattle.model.specs.Outcome.{Outcome, refused, done}
-use Rattle.shelf.specs.Walk.{Listing, headTerm, headCount, rightHead, bodies}
+use Rattle.shelf.specs.Walk.{Listing, head_term, head_count, right_head, bodies}
 use Rattle.shelf.specs.declared.walk.Place.{Place}
 use Rattle.shelf.specs.declared.walk.HeadRead.{HeadRead}
 use Rattle.shelf.specs.declared.walk.HeadRead.TheVariants.{Head, NoHead}
@@ -11,8 +11,8 @@ use Rattle.shelf.specs.declared.walk.PlaceRead.TheVariants.{Past, Refused}
 use Rattle.shelf.specs.declared.walk.ListRead.{ListRead}
 use Rattle.shelf.specs.declared.walk.ListRead.TheVariants.{Is, Not}
 
-unfoldable pub headAt : (floor : ℕ) → List ℕ → ℕ → HeadRead
-headAt floor s at = cond (rightHead floor (drop at s)) (Head (headTerm (drop at s)) (headCount (drop at s))) NoHead
+unfoldable pub head_at : (floor : ℕ) → List ℕ → ℕ → HeadRead
+head_at floor s at = cond (right_head floor (drop at s)) (Head (head_term (drop at s)) (head_count (drop at s))) NoHead
 
 abbrev pub place_of : Outcome ℕ → PlaceRead
 place_of (done p) = Past p
@@ -24,7 +24,7 @@ list_of (refused n o) = Not n o
 
 -- a list of `count` blocks that was walked: there is room for its summaries, and its bodies are whole, up to `next`
 pub record Stands (s : List ℕ) (at count next : ℕ) : Type 0 where
-  pub few : count ≤ perList
+  pub few : count ≤ per_list
   pub room : at + 8 + 12 * count ≤ length s
   pub bodied : bodies count (at + 8 + 12 * count) (drop (at + 8 + 12 * count) s) ≡ done next
 

@@ -1,8 +1,8 @@
 -- The walk as a place that is handed on, list by list. Assumes nothing.
 use Rattle.std.specs.Prelude.{ℕ, zero, suc, ◌+◌, List, [], ◌∷◌, cond, leb, length, drop}
-use Rattle.model.specs.Limits.{maxLists, maxShelf}
+use Rattle.model.specs.Limits.{max_lists, max_shelf}
 use Rattle.model.specs.Outcome.{Outcome, refused, done}
-use Rattle.shelf.specs.Walk.{Listing, blocksAt, list, lists}
+use Rattle.shelf.specs.Walk.{Listing, blocks_at, list, lists}
 use Rattle.shelf.specs.declared.walk.Place.{Place}
 use Rattle.shelf.specs.declared.walk.Walk.{Walk}
 use Rattle.shelf.specs.declared.walk.WalkStep.{WalkStep}
@@ -10,7 +10,7 @@ use Rattle.shelf.specs.declared.walk.WalkStep.TheVariants as step
 
 -- before the first list
 unfoldable pub start : Walk
-start = record { at = 0; floor = 0; left = maxLists }
+start = record { at = 0; floor = 0; left = max_lists }
 
 -- past a list, "lists in strictly rising term number": n may still come
 abbrev pub past : ℕ → Place → Walk
@@ -27,13 +27,13 @@ step_of zero floor at (b ∷ s) = step.Fault 6 at
 step_of (suc n) floor at (b ∷ s) = stepped n (list floor at (b ∷ s))
 
 -- what the walk finds at a place; "shelf over 1,048,576 bytes (offset 0)"
-unfoldable pub walkStep : List ℕ → Walk → WalkStep
-walkStep s w = cond (leb (length s) maxShelf) (step_of w.left w.floor w.at (drop w.at s)) (step.Fault 6 0)
+unfoldable pub walk_step : List ℕ → Walk → WalkStep
+walk_step s w = cond (leb (length s) max_shelf) (step_of w.left w.floor w.at (drop w.at s)) (step.Fault 6 0)
 
 -- what is left of the walk
-unfoldable pub listsAt : List ℕ → Walk → Outcome (List Listing)
-listsAt s w = cond (leb (length s) maxShelf) (lists w.left w.floor w.at (drop w.at s)) (refused 6 0)
+unfoldable pub lists_at : List ℕ → Walk → Outcome (List Listing)
+lists_at s w = cond (leb (length s) max_shelf) (lists w.left w.floor w.at (drop w.at s)) (refused 6 0)
 
 -- the list that was found at a place, with its blocks
-abbrev pub listingAt : List ℕ → Place → Listing
-listingAt s p = record { place = p; blocks = blocksAt s p.at p.count }
+abbrev pub listing_at : List ℕ → Place → Listing
+listing_at s p = record { place = p; blocks = blocks_at s p.at p.count }

@@ -1,7 +1,7 @@
 // The checker: faults 6 and 7, then the first wrong body.
 ghost use Rattle.std.specs.Prelude.{◌≡◌, []};
-ghost use Rattle.shelf.specs.Walk.{blocksAt};
-ghost use Rattle.shelf.specs.Check.{badBody, or_else, verdict, judged, checked, paper};
+ghost use Rattle.shelf.specs.Walk.{blocks_at};
+ghost use Rattle.shelf.specs.Check.{bad_body, or_else, verdict, judged, checked, paper};
 ghost use Rattle.shelf.specs.Answers.{Ready};
 
 use crate::blocks::{BlockStep, Reading};
@@ -17,7 +17,7 @@ pub enum BadRead {
 // The first wrong body of a list that the walk found.
 pub fn bad_body(s: &[u8], list: Place) -> BadRead
     requires { Ready s.now list }
-    ensures { result ≡ badBody (blocksAt s.now list.at list.count) }
+    ensures { result ≡ bad_body (blocks_at s.now list.at list.count) }
 {
     let mut r = Reading::new(list);
     loop {
@@ -38,7 +38,7 @@ pub fn bad_body(s: &[u8], list: Place) -> BadRead
 // A wrong body that is known, or else the list's first.
 fn bad_or(known: BadRead, s: &[u8], list: Place) -> BadRead
     requires { Ready s.now list }
-    ensures { result ≡ or_else known (badBody (blocksAt s.now list.at list.count)) }
+    ensures { result ≡ or_else known (bad_body (blocks_at s.now list.at list.count)) }
 {
     match known {
         BadRead::BadAt(o) => BadRead::BadAt(o),

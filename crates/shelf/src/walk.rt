@@ -1,8 +1,8 @@
 // The walk over a shelf's lists: faults 6 and 7, first in byte order.
 ghost use Rattle.std.specs.Prelude.{◌≡◌, drop};
 ghost use Rattle.shelf.specs.Walk.{sums, bodies, list};
-ghost use Rattle.shelf.specs.Answers.{headAt, place_of, list_of};
-ghost use Rattle.shelf.specs.Cursor.{start, walkStep};
+ghost use Rattle.shelf.specs.Answers.{head_at, place_of, list_of};
+ghost use Rattle.shelf.specs.Cursor.{start, walk_step};
 
 use block::summary::SummaryRead;
 use wire::field::FieldRead;
@@ -40,7 +40,7 @@ pub enum ListRead {
 }
 
 fn head_at(s: &[u8], at: usize, floor: u64) -> HeadRead
-    ensures { result ≡ headAt floor s.now at }
+    ensures { result ≡ head_at floor s.now at }
 {
     match wire::field::field(s, at, 1) {
         FieldRead::Whole(n) => {
@@ -162,7 +162,7 @@ impl Walk {
 
     // The shelf's size is judged at each step, so that no walk can forget it.
     pub fn next(self, s: &[u8]) -> WalkStep
-        ensures { result ≡ walkStep s.now self }
+        ensures { result ≡ walk_step s.now self }
     {
         let at = self.at;
         let floor = self.floor;

@@ -10,10 +10,10 @@ use borrow.Author.Tests.{ltb-true, ltb-false, leb-true, lt-ltb, le-ltb, le-leb, 
 use lib.ListN.{length, get_or, drop, length-drop, length-append}
 use lib.Dec.{ltb, leb, eqb}
 use Rattle.model.specs.Runs.{Bytes}
-use Rattle.model.proofs.Lists.{split, and-true, and-false, rest-cons, rest-none}
+use Rattle.model.proofs.Lists.{split, and-true, and-false, rest_cons, rest-none}
 use Rattle.wire.specs.Read.{Read, got, stopped}
 use Rattle.wire.specs.Number.{num, be}
-use Rattle.wire.specs.Gap.{more, gap, gapIn, gapBytes, score, gapPast, scorePast, gapAt, scoreAt}
+use Rattle.wire.specs.Gap.{more, gap, gap_in, gap_bytes, score, gap_past, score_past, gap_at, score_at}
 use Rattle.wire.specs.declared.gap.GapRead.{GapRead}
 use Rattle.wire.specs.declared.gap.GapRead.TheVariants.{Gap, NoGap}
 use Rattle.wire.specs.declared.gap.ScoreRead.TheVariants.{Score, NoScore}
@@ -21,36 +21,36 @@ use Rattle.wire.proofs.Numbers.{num-be, be-num, be-length, num-below}
 
 -- ---- the gap number at a place
 
-pub gap-none : (s : List ℕ) (at : ℕ) → gapAt 0 s at ≡ NoGap at
-unfolding gapAt gap
+pub gap-none : (s : List ℕ) (at : ℕ) → gap_at 0 s at ≡ NoGap at
+unfolding gap_at gap
 gap-none s at = rw add-zero
 
-pub gap-end : (n : ℕ) (s : List ℕ) (at : ℕ) → length s ≤ at → gapAt n s at ≡ NoGap at
-unfolding gapAt gap
+pub gap-end : (n : ℕ) (s : List ℕ) (at : ℕ) → length s ≤ at → gap_at n s at ≡ NoGap at
+unfolding gap_at gap
 gap-end zero s at h = rw add-zero
 gap-end (suc n) s at h = rw (rest-none s at h, add-zero)
 
-pub gap-last : (n : ℕ) (s : List ℕ) (at : ℕ) → (n ≡ 0 → ⊥) → at < length s → get_or s at 0 < 128 → gapAt n s at ≡ Gap (get_or s at 0) (at + 1)
-unfolding gapAt gap
+pub gap-last : (n : ℕ) (s : List ℕ) (at : ℕ) → (n ≡ 0 → ⊥) → at < length s → get_or s at 0 < 128 → gap_at n s at ≡ Gap (get_or s at 0) (at + 1)
+unfolding gap_at gap
 gap-last zero s at z h l = absurd (z refl)
-gap-last (suc n) s at z h l = rw (rest-cons s at h, lt-ltb (get_or s at 0) 128 l)
+gap-last (suc n) s at z h l = rw (rest_cons s at h, lt-ltb (get_or s at 0) 128 l)
 
 -- `more`, where the number at `at` goes on with what was read past its first byte
 abbrev pub more_at : (at b : ℕ) → GapRead → GapRead
 more_at at b (Gap v p) = cond (eqb v 0) (NoGap at) (Gap (b % 128 + 128 * v) p)
 more_at at b (NoGap p) = NoGap at
 
-past_more : (b at : ℕ) (r : Read ℕ) → gapPast at (more b r) ≡ more_at at b (gapPast (at + 1) r)
+past_more : (b at : ℕ) (r : Read ℕ) → gap_past at (more b r) ≡ more_at at b (gap_past (at + 1) r)
 unfolding more
 past_more b at (stopped k) = rw add-zero
 past_more b at (got v k) =
     split (eqb v 0) (λ e. rw (e, add-zero)) (λ e. rw e (ap (λ (p : ℕ). Gap (b % 128 + 128 * v) p) (omega arith)))
 
-pub gap_more : (n : ℕ) (s : List ℕ) (at : ℕ) → (n ≡ 0 → ⊥) → at < length s → 128 ≤ get_or s at 0 → gapAt n s at ≡ more_at at (get_or s at 0) (gapAt (n - 1) s (at + 1))
-unfolding gapAt gap
+pub gap_more : (n : ℕ) (s : List ℕ) (at : ℕ) → (n ≡ 0 → ⊥) → at < length s → 128 ≤ get_or s at 0 → gap_at n s at ≡ more_at at (get_or s at 0) (gap_at (n - 1) s (at + 1))
+unfolding gap_at gap
 gap_more zero s at z h l = absurd (z refl)
 gap_more (suc n) s at z h l =
-    rw (sub-one, rest-cons s at h, le-ltb (get_or s at 0) 128 l) (past_more (get_or s at 0) at (gap n (drop (at + 1) s)))
+    rw (sub-one, rest_cons s at h, le-ltb (get_or s at 0) 128 l) (past_more (get_or s at 0) at (gap n (drop (at + 1) s)))
 
 -- ---- the same, byte after byte
 
@@ -75,18 +75,18 @@ at_front zero s = refl
 at_front (suc n) [] = refl
 at_front (suc n) (b ∷ s) = split (ltb b 128) (λ e. rw e tt) (λ e. rw e (at-front-more b (gap n s)))
 
-pub whole-start : (n : ℕ) (s : List ℕ) (at : ℕ) → gapAt n s at ≡ whole_at at at 0 1 (gapAt n s at)
-unfolding gapAt
+pub whole-start : (n : ℕ) (s : List ℕ) (at : ℕ) → gap_at n s at ≡ whole_at at at 0 1 (gap_at n s at)
+unfolding gap_at
 whole-start n s at = go (gap n (drop at s)) (at_front n (drop at s))
   where
-    go : (r : Read ℕ) → AtFront r → gapPast at r ≡ whole_at at at 0 1 (gapPast at r)
+    go : (r : Read ℕ) → AtFront r → gap_past at r ≡ whole_at at at 0 1 (gap_past at r)
     go (got v k) f = rw (le-ltb at at (omega arith), and-false) (ap (λ (w : ℕ). Gap w (at + k)) (omega arith))
     go (stopped k) f = rw (f, add-zero)
 
 -- a byte of seven low bits counts `unit` times, and what is past it 128 times as much
-whole-byte : (at i v unit b : ℕ) (r : GapRead) → at ≤ i → whole_at at i v unit (more_at i b r) ≡ whole_at at (i + 1) (v + unit * (b % 128)) (unit * 128) r
-whole-byte at i v unit b (NoGap p) h = refl
-whole-byte at i v unit b (Gap w p) h =
+whole_byte : (at i v unit b : ℕ) (r : GapRead) → at ≤ i → whole_at at i v unit (more_at i b r) ≡ whole_at at (i + 1) (v + unit * (b % 128)) (unit * 128) r
+whole_byte at i v unit b (NoGap p) h = refl
+whole_byte at i v unit b (Gap w p) h =
     split (eqb w 0)
     (λ e. rw (e, lt-ltb at (i + 1) (omega arith)))
     (λ e.
@@ -95,9 +95,9 @@ whole-byte at i v unit b (Gap w p) h =
     (ap (λ (x : ℕ). Gap x p) (omega (arith, mul-add unit (b % 128) (128 * w), mul_assoc unit 128 w))))
 
 pub whole-more : (at i v unit n : ℕ) (s : List ℕ) → at ≤ i → 0 < n → i < length s → 128 ≤ get_or s i 0
-    → whole_at at i v unit (gapAt n s i) ≡ whole_at at (i + 1) (v + unit * (get_or s i 0 % 128)) (unit * 128) (gapAt (n - 1) s (i + 1))
+    → whole_at at i v unit (gap_at n s i) ≡ whole_at at (i + 1) (v + unit * (get_or s i 0 % 128)) (unit * 128) (gap_at (n - 1) s (i + 1))
 whole-more at i v unit n s h p l b =
-    rw (gap_more n s i (λ e. omega arith) l b) (whole-byte at i v unit (get_or s i 0) (gapAt (n - 1) s (i + 1)) h)
+    rw (gap_more n s i (λ e. omega arith) l b) (whole_byte at i v unit (get_or s i 0) (gap_at (n - 1) s (i + 1)) h)
 
 -- a number of n bytes is below 128 to the n
 abbrev Small : ℕ → Read ℕ → Type 0
@@ -119,8 +119,8 @@ small (suc n) (b ∷ s) =
     (split (ltb b 128) (λ e. rw e (omega (arith, ltb-true b 128 e, one-le-pow n 128 (omega arith)))) (λ e. rw e ih))
 
 -- a number of at most m bytes is below 128 to the m
-pub gap_below : (n m : ℕ) (s : List ℕ) (at v k : ℕ) → n ≤ m → gapAt n s at ≡ Gap v k → v < 128 ^ m
-unfolding gapAt
+pub gap_below : (n m : ℕ) (s : List ℕ) (at v k : ℕ) → n ≤ m → gap_at n s at ≡ Gap v k → v < 128 ^ m
+unfolding gap_at
 gap_below n m s at v k le e =
     lt_of_lt_of_le (rw e at (past (gap n (drop at s)) (small n (drop at s)))) (pow-le-pow_right (omega arith) le)
   where
@@ -128,87 +128,87 @@ gap_below n m s at v k le e =
     At (Gap v k) = v < 128 ^ n
     At (NoGap p) = Unit {0}
 
-    past : (r : Read ℕ) → Small (128 ^ n) r → At (gapPast at r)
+    past : (r : Read ℕ) → Small (128 ^ n) r → At (gap_past at r)
     past (got v k) h = h
     past (stopped k) h = tt
 
 -- ---- the score at a place
 
 module _ (s : List ℕ) (at : ℕ) where
-  pub score-short : length s < at + 2 → scoreAt s at ≡ NoScore at
-  unfolding scoreAt score
+  pub score-short : length s < at + 2 → score_at s at ≡ NoScore at
+  unfolding score_at score
   score-short h = rw (length-drop at s, lt-leb 2 (length s - at) (omega arith), add-zero)
 
-  pub score-zero : at + 2 ≤ length s → num 2 (drop at s) ≡ 0 → scoreAt s at ≡ NoScore at
-  unfolding scoreAt score
+  pub score-zero : at + 2 ≤ length s → num 2 (drop at s) ≡ 0 → score_at s at ≡ NoScore at
+  unfolding score_at score
   score-zero h e = rw (length-drop at s, le-leb 2 (length s - at) (omega arith), le-ltb 0 (num 2 (drop at s)) (omega arith), add-zero)
 
-  pub score-there : at + 2 ≤ length s → (num 2 (drop at s) ≡ 0 → ⊥) → scoreAt s at ≡ Score (num 2 (drop at s)) (at + 2)
-  unfolding scoreAt score
+  pub score-there : at + 2 ≤ length s → (num 2 (drop at s) ≡ 0 → ⊥) → score_at s at ≡ Score (num 2 (drop at s)) (at + 2)
+  unfolding score_at score
   score-there h z = rw (length-drop at s, le-leb 2 (length s - at) (omega arith), lt-ltb 0 (num 2 (drop at s)) (omega arith))
 
 -- ---- from what the code found back to what was read
 
 module _ (n : ℕ) (s : List ℕ) (at : ℕ) where
-  pub gap-got : (v p : ℕ) → gapAt n s at ≡ Gap v p → (k : ℕ) × (gap n (drop at s) ≡ got v k) × (p ≡ at + k)
-  unfolding gapAt
+  pub gap-got : (v p : ℕ) → gap_at n s at ≡ Gap v p → (k : ℕ) × (gap n (drop at s) ≡ got v k) × (p ≡ at + k)
+  unfolding gap_at
   gap-got v p e = go (gap n (drop at s)) e
     where
-      go : (r : Read ℕ) → gapPast at r ≡ Gap v p → (k : ℕ) × (r ≡ got v k) × (p ≡ at + k)
+      go : (r : Read ℕ) → gap_past at r ≡ Gap v p → (k : ℕ) × (r ≡ got v k) × (p ≡ at + k)
       go (got w k) q = let a : w ≡ v = cc in let b : at + k ≡ p = cc in (k, rw a, sym b)
       go (stopped k) q = let z : ◌≡◌ {A = ℕ} 0 1 = cc in absurd (omega arith)
 
-  pub gap-not : (p : ℕ) → gapAt n s at ≡ NoGap p → (k : ℕ) × (gap n (drop at s) ≡ stopped k) × (p ≡ at + k)
-  unfolding gapAt
+  pub gap-not : (p : ℕ) → gap_at n s at ≡ NoGap p → (k : ℕ) × (gap n (drop at s) ≡ stopped k) × (p ≡ at + k)
+  unfolding gap_at
   gap-not p e = go (gap n (drop at s)) e
     where
-      go : (r : Read ℕ) → gapPast at r ≡ NoGap p → (k : ℕ) × (r ≡ stopped k) × (p ≡ at + k)
+      go : (r : Read ℕ) → gap_past at r ≡ NoGap p → (k : ℕ) × (r ≡ stopped k) × (p ≡ at + k)
       go (got w k) q = let z : ◌≡◌ {A = ℕ} 0 1 = cc in absurd (omega arith)
       go (stopped k) q = let b : at + k ≡ p = cc in (k, refl, sym b)
 
 module _ (s : List ℕ) (at : ℕ) where
-  pub score-got : (v p : ℕ) → scoreAt s at ≡ Score v p → (k : ℕ) × (score (drop at s) ≡ got v k) × (p ≡ at + k)
-  unfolding scoreAt
+  pub score-got : (v p : ℕ) → score_at s at ≡ Score v p → (k : ℕ) × (score (drop at s) ≡ got v k) × (p ≡ at + k)
+  unfolding score_at
   score-got v p e = go (score (drop at s)) e
     where
-      go : (r : Read ℕ) → scorePast at r ≡ Score v p → (k : ℕ) × (r ≡ got v k) × (p ≡ at + k)
+      go : (r : Read ℕ) → score_past at r ≡ Score v p → (k : ℕ) × (r ≡ got v k) × (p ≡ at + k)
       go (got w k) q = let a : w ≡ v = cc in let b : at + k ≡ p = cc in (k, rw a, sym b)
       go (stopped k) q = let z : ◌≡◌ {A = ℕ} 0 1 = cc in absurd (omega arith)
 
-  pub score-not : (p : ℕ) → scoreAt s at ≡ NoScore p → (k : ℕ) × (score (drop at s) ≡ stopped k) × (p ≡ at + k)
-  unfolding scoreAt
+  pub score-not : (p : ℕ) → score_at s at ≡ NoScore p → (k : ℕ) × (score (drop at s) ≡ stopped k) × (p ≡ at + k)
+  unfolding score_at
   score-not p e = go (score (drop at s)) e
     where
-      go : (r : Read ℕ) → scorePast at r ≡ NoScore p → (k : ℕ) × (r ≡ stopped k) × (p ≡ at + k)
+      go : (r : Read ℕ) → score_past at r ≡ NoScore p → (k : ℕ) × (r ≡ stopped k) × (p ≡ at + k)
       go (got w k) q = let z : ◌≡◌ {A = ℕ} 0 1 = cc in absurd (omega arith)
       go (stopped k) q = let b : at + k ≡ p = cc in (k, refl, sym b)
 
 -- ---- the bytes of a gap number
 
-pub in-last : (n v : ℕ) → v < 128 → gapIn (suc n) v ≡ v ∷ []
-unfolding gapIn
-in-last n v h = rw (lt-ltb v 128 h)
+pub in_last : (n v : ℕ) → v < 128 → gap_in (suc n) v ≡ v ∷ []
+unfolding gap_in
+in_last n v h = rw (lt-ltb v 128 h)
 
-pub in_step : (n v : ℕ) → 128 ≤ v → gapIn (suc n) v ≡ (128 + v % 128) ∷ gapIn n (v / 128)
-unfolding gapIn
+pub in_step : (n v : ℕ) → 128 ≤ v → gap_in (suc n) v ≡ (128 + v % 128) ∷ gap_in n (v / 128)
+unfolding gap_in
 in_step n v h = rw (le-ltb v 128 h)
 
-pub in_some : (n v : ℕ) → 0 < length (gapIn (suc n) v)
+pub in_some : (n v : ℕ) → 0 < length (gap_in (suc n) v)
 in_some n v =
     split (ltb v 128)
-    (λ e. rw (in-last n v (ltb-true v 128 e)) (omega arith))
+    (λ e. rw (in_last n v (ltb-true v 128 e)) (omega arith))
     (λ e. rw (in_step n v (ltb-false v 128 e)) (omega arith))
 
-pub in-length : (n v : ℕ) → length (gapIn n v) ≤ n
-unfolding gapIn
-in-length zero v = omega arith
-in-length (suc n) v = split (ltb v 128) (λ e. rw e (omega arith)) (λ e. rw e (omega (arith, in-length n (v / 128))))
+pub in_length : (n v : ℕ) → length (gap_in n v) ≤ n
+unfolding gap_in
+in_length zero v = omega arith
+in_length (suc n) v = split (ltb v 128) (λ e. rw e (omega arith)) (λ e. rw e (omega (arith, in_length n (v / 128))))
 
 -- ---- what is written is read back
 
-more-round : (v k : ℕ) → 128 ≤ v → more (128 + v % 128) (got (v / 128) k) ≡ got v (suc k)
+more_round : (v k : ℕ) → 128 ≤ v → more (128 + v % 128) (got (v / 128) k) ≡ got v (suc k)
 unfolding more
-more-round v k h =
+more_round v k h =
     rw (ne_eqb (v / 128) 0 (λ e. omega arith)) (ap₂ (λ (x y : ℕ). got x y) (omega arith) (omega arith))
 
 front-last : (n v : ℕ) (t : List ℕ) → v < 128 → gap (suc n) (v ∷ t) ≡ got v 1
@@ -217,31 +217,31 @@ front-last n v t h = rw (lt-ltb v 128 h)
 
 front-more : (n v k : ℕ) (t : List ℕ) → 128 ≤ v → gap n t ≡ got (v / 128) k → gap (suc n) ((128 + v % 128) ∷ t) ≡ got v (suc k)
 unfolding gap
-front-more n v k t h e = rw (le-ltb (128 + v % 128) 128 (omega arith), e) (more-round v k h)
+front-more n v k t h e = rw (le-ltb (128 + v % 128) 128 (omega arith), e) (more_round v k h)
 
 one_byte : (n v : ℕ) → 128 ≤ v → v < 128 ^ suc n → 0 < n
 one_byte zero v b h = absurd (omega arith)
 one_byte (suc n) v b h = omega arith
 
 -- at most n bytes are read, and at most m written: a number below 128 to the n fits both
-in-round : (n m v : ℕ) (t : List ℕ) → v < 128 ^ n → n ≤ m → 0 < n → gap n (gapIn m v ++ t) ≡ got v (length (gapIn m v))
-in-round zero m v t h l p = absurd (omega arith)
-in-round (suc n) zero v t h l p = absurd (omega arith)
-in-round (suc n) (suc m) v t h l p =
+in_round : (n m v : ℕ) (t : List ℕ) → v < 128 ^ n → n ≤ m → 0 < n → gap n (gap_in m v ++ t) ≡ got v (length (gap_in m v))
+in_round zero m v t h l p = absurd (omega arith)
+in_round (suc n) zero v t h l p = absurd (omega arith)
+in_round (suc n) (suc m) v t h l p =
     split (ltb v 128)
-    (λ e. rw (in-last m v (ltb-true v 128 e)) (front-last n v t (ltb-true v 128 e)))
+    (λ e. rw (in_last m v (ltb-true v 128 e)) (front-last n v t (ltb-true v 128 e)))
     (λ e.
     let big : 128 ≤ v = ltb-false v 128 e in
     let fits : v / 128 < 128 ^ n = omega (arith, pow-succ' 128 n) in
     rw (in_step m v big)
-    (front-more n v (length (gapIn m (v / 128))) (gapIn m (v / 128) ++ t) big (in-round n m (v / 128) t fits (omega arith) (one_byte n v big h))))
+    (front-more n v (length (gap_in m (v / 128))) (gap_in m (v / 128) ++ t) big (in_round n m (v / 128) t fits (omega arith) (one_byte n v big h))))
 
-pub gap-round : (n v : ℕ) (t : List ℕ) → v < 128 ^ n → n ≤ 5 → 0 < n → gap n (gapBytes v ++ t) ≡ got v (length (gapBytes v))
-gap-round n v t h l p = in-round n 5 v t h l p
+pub gap_round : (n v : ℕ) (t : List ℕ) → v < 128 ^ n → n ≤ 5 → 0 < n → gap n (gap_bytes v ++ t) ≡ got v (length (gap_bytes v))
+gap_round n v t h l p = in_round n 5 v t h l p
 
-pub score-round : (w : ℕ) (t : List ℕ) → 0 < w → w < 65536 → score (be 2 w ++ t) ≡ got w 2
+pub score_round : (w : ℕ) (t : List ℕ) → 0 < w → w < 65536 → score (be 2 w ++ t) ≡ got w 2
 unfolding score
-score-round w t p h =
+score_round w t p h =
     let room : 2 ≤ length (be 2 w ++ t) = omega (arith, length-append (be 2 w) t, be-length 2 w) in
     rw (le-leb 2 (length (be 2 w ++ t)) room, num-be 2 w t h, lt-ltb 0 w p)
 
@@ -249,7 +249,7 @@ score-round w t p h =
 
 -- what reading s says: the number's own bytes stand at its front
 abbrev Own : (m p : ℕ) → List ℕ → Read ℕ → Type 0
-Own m p s (got v k) = (s ≡ gapIn m v ++ drop k s) × (v < p) × (k ≡ length (gapIn m v))
+Own m p s (got v k) = (s ≡ gap_in m v ++ drop k s) × (v < p) × (k ≡ length (gap_in m v))
 Own m p s (stopped k) = Unit {0}
 
 own-more : (m p b : ℕ) (s : List ℕ) (r : Read ℕ) → 128 ≤ b → b < 256 → Own m p s r → Own (suc m) (128 * p) (b ∷ s) (more b r)
@@ -277,11 +277,11 @@ own (suc n) (suc m) (b ∷ s) h l =
     let ih = own n m s (λ i. h (suc i)) (omega arith) in
     rw (pow-succ' 128 n)
     (split (ltb b 128)
-    (λ e. rw (e, in-last m b (ltb-true b 128 e)) (refl, omega (arith, ltb-true b 128 e, one-le-pow n 128 (omega arith)), refl))
+    (λ e. rw (e, in_last m b (ltb-true b 128 e)) (refl, omega (arith, ltb-true b 128 e, one-le-pow n 128 (omega arith)), refl))
     (λ e. rw e (own-more m (128 ^ n) b s (gap n s) (ltb-false b 128 e) (h 0) ih)))
 
 pub gap-only : (n : ℕ) (s : List ℕ) (v k : ℕ) → Bytes s → n ≤ 5 → gap n s ≡ got v k
-    → (s ≡ gapBytes v ++ drop k s) × (v < 128 ^ n) × (k ≡ length (gapBytes v))
+    → (s ≡ gap_bytes v ++ drop k s) × (v < 128 ^ n) × (k ≡ length (gap_bytes v))
 gap-only n s v k h l e = rw e at (own n 5 s h l)
 
 abbrev Scored : List ℕ → Read ℕ → Type 0

@@ -78,17 +78,17 @@ be-num n s h l =
 
 -- ---- numbers at a place, as the code puts them together
 
-pub num-1 : (at : ℕ) (s : List ℕ) → at + 1 ≤ length s → num 1 (drop at s) ≡ get_or s at 0
-num-1 at s h =
+pub num_1 : (at : ℕ) (s : List ℕ) → at + 1 ≤ length s → num 1 (drop at s) ≡ get_or s at 0
+num_1 at s h =
     let e = num-at 0 at s (omega arith) in
     let z : num 0 (drop at s) ≡ 0 = num-none (drop at s) in
     let g : get_or s (at + 0) 0 ≡ get_or s at 0 = rw add-zero in
     omega arith
 
-pub num-4 : (at : ℕ) (s : List ℕ) → at + 4 ≤ length s → num 4 (drop at s) ≡ 65536 * num 2 (drop at s) + num 2 (drop (at + 2) s)
-num-4 at s h =
+pub num_4 : (at : ℕ) (s : List ℕ) → at + 4 ≤ length s → num 4 (drop at s) ≡ 65536 * num 2 (drop at s) + num 2 (drop (at + 2) s)
+num_4 at s h =
     let g : get_or s (at + 2 + 1) 0 ≡ get_or s (at + 3) 0 = ap (λ (k : ℕ). get_or s k 0) (omega arith) in
-    omega (arith, num-at 3 at s (omega arith), num-at 2 at s (omega arith), num-at 1 (at + 2) s (omega arith), num-1 (at + 2) s (omega arith))
+    omega (arith, num-at 3 at s (omega arith), num-at 2 at s (omega arith), num-at 1 (at + 2) s (omega arith), num_1 (at + 2) s (omega arith))
 
 -- ---- bytes, as the code stores them one by one
 

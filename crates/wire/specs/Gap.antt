@@ -19,29 +19,29 @@ gap (suc n) [] = stopped 0
 gap (suc n) (b ∷ s) = cond (ltb b 128) (got b 1) (more b (gap n s))
 
 -- the bytes of v, of which there are at most n
-unfoldable pub gapIn : ℕ → ℕ → List ℕ
-gapIn zero v = []
-gapIn (suc n) v = cond (ltb v 128) (v ∷ []) ((128 + v % 128) ∷ gapIn n (v / 128))
+unfoldable pub gap_in : ℕ → ℕ → List ℕ
+gap_in zero v = []
+gap_in (suc n) v = cond (ltb v 128) (v ∷ []) ((128 + v % 128) ∷ gap_in n (v / 128))
 
 -- five bytes are enough for every gap between two 32-bit docids
-abbrev pub gapBytes : ℕ → List ℕ
-gapBytes v = gapIn 5 v
+abbrev pub gap_bytes : ℕ → List ℕ
+gap_bytes v = gap_in 5 v
 
 -- a score is two bytes, and not 0
 unfoldable pub score : List ℕ → Read ℕ
 score s = cond (leb 2 (length s) && ltb 0 (num 2 s)) (got (num 2 s) 2) (stopped 0)
 
 -- what reading at a place gives: the number and the place past it; or the place of what is at fault
-abbrev pub gapPast : ℕ → Read ℕ → GapRead
-gapPast at (got v k) = Gap v (at + k)
-gapPast at (stopped k) = NoGap (at + k)
+abbrev pub gap_past : ℕ → Read ℕ → GapRead
+gap_past at (got v k) = Gap v (at + k)
+gap_past at (stopped k) = NoGap (at + k)
 
-abbrev pub scorePast : ℕ → Read ℕ → ScoreRead
-scorePast at (got v k) = Score v (at + k)
-scorePast at (stopped k) = NoScore (at + k)
+abbrev pub score_past : ℕ → Read ℕ → ScoreRead
+score_past at (got v k) = Score v (at + k)
+score_past at (stopped k) = NoScore (at + k)
 
-unfoldable pub gapAt : (most : ℕ) → List ℕ → ℕ → GapRead
-gapAt most s at = gapPast at (gap most (drop at s))
+unfoldable pub gap_at : (most : ℕ) → List ℕ → ℕ → GapRead
+gap_at most s at = gap_past at (gap most (drop at s))
 
-unfoldable pub scoreAt : List ℕ → ℕ → ScoreRead
-scoreAt s at = scorePast at (score (drop at s))
+unfoldable pub score_at : List ℕ → ℕ → ScoreRead
+score_at s at = score_past at (score (drop at s))

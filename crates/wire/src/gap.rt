@@ -1,7 +1,7 @@
 // The two numbers of a body: the gap number and the score.
 ghost use Rattle.std.specs.Prelude.{◌≡◌, ◌+◌, ◌≤◌, ◌<◌, ◌^◌, length};
 ghost use Rattle.model.specs.Runs.{Stored};
-ghost use Rattle.wire.specs.Gap.{gapAt, scoreAt, gapBytes};
+ghost use Rattle.wire.specs.Gap.{gap_at, score_at, gap_bytes};
 
 // A gap number and the place past it; or none stands there, and the place where what stands there begins.
 #[derive(Drop)]
@@ -20,7 +20,7 @@ pub enum ScoreRead {
 // The gap number at a place, in at most `most` bytes. Most gaps are one byte, which is read here without a call.
 pub fn gap(s: &[u8], at: usize, most: u8) -> GapRead
     requires { (0 < most) × (most ≤ 5) }
-    ensures { result ≡ gapAt most s.now at }
+    ensures { result ≡ gap_at most s.now at }
 {
     if s.len() <= at {
         return GapRead::NoGap(at);
@@ -35,7 +35,7 @@ pub fn gap(s: &[u8], at: usize, most: u8) -> GapRead
 // The same, byte after byte: `v` is what the bytes before `i` are worth, `unit` what a one at `i` is worth.
 fn gap_in(s: &[u8], at: usize, most: u8) -> GapRead
     requires { most ≤ 5 }
-    ensures { result ≡ gapAt most s.now at }
+    ensures { result ≡ gap_at most s.now at }
 {
     let mut v: u64 = 0;
     let mut unit: u64 = 1;
@@ -61,7 +61,7 @@ fn gap_in(s: &[u8], at: usize, most: u8) -> GapRead
 }
 
 pub fn score(s: &[u8], at: usize) -> ScoreRead
-    ensures { result ≡ scoreAt s.now at }
+    ensures { result ≡ score_at s.now at }
 {
     let n = s.len();
     if n < at {
@@ -80,8 +80,8 @@ pub fn score(s: &[u8], at: usize) -> ScoreRead
 
 // The gap number's bytes, stored at a place that has room; gives the place past them.
 pub fn put_gap(out: &mut [u8], at: usize, g: u64) -> usize
-    requires { (g < 128 ^ 5) × (at + length (gapBytes g) ≤ length out.old) }
-    ensures { Stored out.old out.new at result (gapBytes g) }
+    requires { (g < 128 ^ 5) × (at + length (gap_bytes g) ≤ length out.old) }
+    ensures { Stored out.old out.new at result (gap_bytes g) }
 {
     let mut n = g;
     let mut i = at;
@@ -97,7 +97,7 @@ pub fn put_gap(out: &mut [u8], at: usize, g: u64) -> usize
 // How many bytes a gap number takes.
 pub fn gap_len(g: u64) -> usize
     requires { g < 128 ^ 5 }
-    ensures { result ≡ length (gapBytes g) }
+    ensures { result ≡ length (gap_bytes g) }
 {
     let mut n = g;
     let mut k = 1;

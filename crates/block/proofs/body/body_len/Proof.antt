@@ -1,8 +1,8 @@
 -- `block::body::body_len` meets its contract. The invariant: what is counted and what is left make the whole, as of a body that is no strip. Assumes nothing.
 use Rattle.model.specs.Post.{postings, Rising}
-use Rattle.model.proofs.Posts.{from, even-tail}
-use Rattle.wire.proofs.Gaps.{in-length}
-use Rattle.block.specs.Body.{laterBytes, frontBytes}
+use Rattle.model.proofs.Posts.{from, even_tail}
+use Rattle.wire.proofs.Gaps.{in_length}
+use Rattle.block.specs.Body.{later_bytes, front_bytes}
 use Rattle.block.proofs.Bodies.{Turn, turn, turn-size, later-none, body-even, body-size}
 use Prim.Native.Nat.{◌+◌, ◌-◌, ◌*◌, ◌≤◌}
 use native.Mathlib.Omega.{arith}
@@ -16,7 +16,7 @@ use Rattle.block.proofs.body.body_len.Tie as tie
 abbrev invariant-loop : tie.invariant-loop
 invariant-loop docs scores p₀ t₀ i₀ p t i =
     (1 ≤ i) × (i ≤ length docs) × Rising p (from i docs scores) × (t ≤ 7 * i)
-    × (t + length (laterBytes false p (from i docs scores)) ≡ length (frontBytes false (postings docs scores)))
+    × (t + length (later_bytes false p (from i docs scores)) ≡ length (front_bytes false (postings docs scores)))
 
 abbrev decreases-loop : tie.decreases-loop
 decreases-loop docs scores p₀ t₀ i₀ p t i = length docs - i
@@ -32,7 +32,7 @@ loop-holds c =
     let q = c.before.before.before.requires in
     let ds = c.before.before.before.args.docs.now in
     let ss = c.before.before.before.args.scores.now in
-    (omega arith, omega arith, (even-tail 0 ds ss q.0 q.2).rise, omega arith, sym (body-size ds ss q.2.same q.0))
+    (omega arith, omega arith, (even_tail 0 ds ss q.0 q.2).rise, omega arith, sym (body-size ds ss q.2.same q.0))
 
 mul-d : tie.Need-overflow-mul-d invariant-loop decreases-loop
 mul-d c = search rules
@@ -53,10 +53,10 @@ gap-len-requires : tie.Need-gap-len-requires invariant-loop decreases-loop
 gap-len-requires c κs = omega (arith, c.shared-slice-known4.given c.before.before.loop.i)
 
 add-t : tie.Need-overflow-add-t invariant-loop decreases-loop
-add-t c = omega (arith, c.gap-len.ensures, in-length 5 (get_or c.before.before.before.before.before.before.before.args.docs.now c.before.before.before.loop.i 0 - c.before.before.before.loop.p - 1))
+add-t c = omega (arith, c.gap-len.ensures, in_length 5 (get_or c.before.before.before.before.before.before.before.args.docs.now c.before.before.before.loop.i 0 - c.before.before.before.loop.p - 1))
 
 add-t-2 : tie.Need-overflow-add-t-2 invariant-loop decreases-loop
-add-t-2 c = omega (arith, c.gap-len.ensures, in-length 5 (get_or c.before.before.before.before.before.before.before.args.docs.now c.before.before.before.loop.i 0 - c.before.before.before.loop.p - 1))
+add-t-2 c = omega (arith, c.gap-len.ensures, in_length 5 (get_or c.before.before.before.before.before.before.before.args.docs.now c.before.before.before.loop.i 0 - c.before.before.before.loop.p - 1))
 
 add-i : tie.Need-overflow-add-i invariant-loop decreases-loop
 add-i c = search rules
@@ -70,7 +70,7 @@ loop-again c =
     let a = c.before.before.before.before.before.before.before.args in
     let l = c.before.before.before.loop in
     let v = l.invariant in
-    (omega arith, omega arith, t.rise, omega (arith, c.gap-len.ensures, in-length 5 (get_or c.before.before.before.before.before.before.before.args.docs.now c.before.before.before.loop.i 0 - c.before.before.before.loop.p - 1)), omega (arith, c.gap-len.ensures, turn-size l.p l.i a.docs.now a.scores.now t, v.4))
+    (omega arith, omega arith, t.rise, omega (arith, c.gap-len.ensures, in_length 5 (get_or c.before.before.before.before.before.before.before.args.docs.now c.before.before.before.loop.i 0 - c.before.before.before.loop.p - 1)), omega (arith, c.gap-len.ensures, turn-size l.p l.i a.docs.now a.scores.now t, v.4))
 
 returns : tie.Need-returns invariant-loop decreases-loop
 returns c strip =
@@ -78,8 +78,8 @@ returns c strip =
     let l = c.before.loop in
     omega (arith, l.invariant.4, ap length (later-none false l.p l.i a.docs.now a.scores.now c.loop-test.false), body-even strip (postings a.docs.now a.scores.now))
 
-pub body-len-spec : {M : Type 1} → statement M
-body-len-spec =
+pub body_len_spec : {M : Type 1} → statement M
+body_len_spec =
     tie.close
     (tie.spec
     invariant-loop

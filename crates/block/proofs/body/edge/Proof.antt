@@ -28,5 +28,5 @@ returns-3 c =
     let a = c.before.before.before.before.args in
     (edge-strip a.m.strip a.m.count a.s.now (not-false a.m.strip c.before.before.if1.false), omega arith)
 
-pub edge-spec : {M : Type 1} → statement M
-edge-spec = tie.close (tie.spec returns cast-scores mul-scores returns-2 returns-3)
+pub edge_spec : {M : Type 1} → statement M
+edge_spec = tie.close (tie.spec returns cast-scores mul-scores returns-2 returns-3)

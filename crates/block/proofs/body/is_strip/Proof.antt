@@ -13,5 +13,5 @@ returns c = strip-there c.before.before.args.s.now c.before.before.args.at
 returns-2 : tie.Need-returns-2
 returns-2 c = strip-none c.before.args.s.now c.before.args.at c.if1.false
 
-pub is-strip-spec : {M : Type 1} → statement M
-is-strip-spec = tie.close (tie.spec shared-slice-read-result returns returns-2)
+pub is_strip_spec : {M : Type 1} → statement M
+is_strip_spec = tie.close (tie.spec shared-slice-read-result returns returns-2)

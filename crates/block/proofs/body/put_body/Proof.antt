@@ -1,7 +1,7 @@
 -- `block::body::put_body` meets its contract: the first score in its turn, then the rest, then a strip's scores. Assumes nothing.
-use Rattle.model.proofs.Storing.{stored-append, stored-as, stored-length, part_end}
-use Rattle.model.proofs.Posts.{even-tail}
-use Rattle.block.proofs.Bodies.{body-cons, body-parts}
+use Rattle.model.proofs.Storing.{stored-append, stored_as, stored-length, part_end}
+use Rattle.model.proofs.Posts.{even_tail}
+use Rattle.block.proofs.Bodies.{body_cons, body-parts}
 use native.Mathlib.Omega.{arith}
 use mathlib.Core.Path.{sym}
 use borrow.Author.Rules.{rules}
@@ -44,7 +44,7 @@ put-later-requires c κs =
     let q = c.before.before.before.before.before.before.before.before.before.before.before.before.requires in
     let s = c.before.before.before.before.before.put-in-turn.ensures in
     rw (part_end 1 a.docs.now, part_end 1 a.scores.now)
-    (even-tail 0 a.docs.now a.scores.now q.0 q.1, omega (arith, q.2, body-parts a.strip a.docs.now a.scores.now q.1.same q.0, stored-length s, s.past))
+    (even_tail 0 a.docs.now a.scores.now q.0 q.1, omega (arith, q.2, body-parts a.strip a.docs.now a.scores.now q.1.same q.0, stored-length s, s.past))
 
 put-strip-requires : tie.Need-put-strip-requires
 put-strip-requires c κs =
@@ -62,10 +62,10 @@ returns c =
     let a = c.before.before.before.before.before.before.before.before.before.before.before.before.before.before.before.before.before.before.before.args in
     let q = c.before.before.before.before.before.before.before.before.before.before.before.before.before.before.before.before.before.before.before.requires in
     let t = rw (part_end 1 a.docs.now, part_end 1 a.scores.now) at c.before.before.before.before.before.before.put-later.ensures in
-    stored-as (sym (body-cons a.strip a.docs.now a.scores.now q.1.same q.0)) (stored-append (stored-append c.before.before.before.before.before.before.before.before.before.before.before.before.put-in-turn.ensures t) c.before.before.put-strip.ensures)
+    stored_as (sym (body_cons a.strip a.docs.now a.scores.now q.1.same q.0)) (stored-append (stored-append c.before.before.before.before.before.before.before.before.before.before.before.before.put-in-turn.ensures t) c.before.before.put-strip.ensures)
 
-pub put-body-spec : {M : Type 1} → statement M
-put-body-spec =
+pub put_body_spec : {M : Type 1} → statement M
+put_body_spec =
     tie.close
     (tie.spec
     shared-slice-read-first

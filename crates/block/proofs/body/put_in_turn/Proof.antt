@@ -1,5 +1,5 @@
 -- `block::body::put_in_turn` meets its contract: nothing of a strip, else the two bytes. Assumes nothing.
-use Rattle.model.proofs.Storing.{rest-start, rest_end, stored-as}
+use Rattle.model.proofs.Storing.{rest-start, rest_end, stored_as}
 use Rattle.wire.proofs.Numbers.{be-length}
 use Rattle.block.specs.Body.{in_turn}
 use native.Mathlib.Omega.{arith}
@@ -24,7 +24,7 @@ same_length : tie.Need-same-length
 same_length c = search rules
 
 returns-2 : tie.Need-returns-2
-returns-2 c = stored-as (sym (ap (λ (b : Bool). in_turn b c.before.before.before.before.before.before.args.score) c.before.before.before.before.if1.false)) c.before.before.put2.ensures
+returns-2 c = stored_as (sym (ap (λ (b : Bool). in_turn b c.before.before.before.before.before.before.args.score) c.before.before.before.before.if1.false)) c.before.before.put2.ensures
 
-pub put-in-turn-spec : {M : Type 1} → statement M
-put-in-turn-spec = tie.close (tie.spec returns put2-requires same_length returns-2)
+pub put_in_turn_spec : {M : Type 1} → statement M
+put_in_turn_spec = tie.close (tie.spec returns put2-requires same_length returns-2)

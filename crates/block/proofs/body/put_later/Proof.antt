@@ -2,8 +2,8 @@
 use Rattle.model.specs.Post.{postings, Rising}
 use Rattle.model.proofs.Storing.{stored-append, stored-length, Rest, rest-start, rest-turn, rest-room, rest_end}
 use Rattle.model.proofs.Posts.{from}
-use Rattle.block.specs.Body.{laterBytes}
-use Rattle.block.proofs.Bodies.{Turn, turn, piece, piece-size, later-none}
+use Rattle.block.specs.Body.{later_bytes}
+use Rattle.block.proofs.Bodies.{Turn, turn, piece, piece_size, later-none}
 use Prim.Native.Nat.{◌+◌, ◌-◌, ◌≤◌}
 use native.Mathlib.Omega.{arith}
 use lib.ListN.{length, get_or}
@@ -14,7 +14,7 @@ use Rattle.block.proofs.body.put_later.Tie as tie
 abbrev invariant-loop : tie.invariant-loop
 invariant-loop out₀ at strip first docs scores p₀ j₀ i₀ out p j i =
     (i ≤ length docs) × Rising p (from i docs scores)
-    × Rest out₀ out at j (laterBytes strip first (postings docs scores)) (laterBytes strip p (from i docs scores))
+    × Rest out₀ out at j (later_bytes strip first (postings docs scores)) (later_bytes strip p (from i docs scores))
 
 abbrev decreases-loop : tie.decreases-loop
 decreases-loop out₀ at strip first docs scores p₀ j₀ i₀ out p j i = length docs - i
@@ -29,7 +29,7 @@ room c =
     let a = c.before.before.before.before.before.args in
     let i = c.before.loop.i in
     let d = get_or a.docs.now i 0 in
-    rest-room (piece a.strip c.before.loop.p d (get_or a.scores.now i 0)) (laterBytes a.strip d (from (i + 1) a.docs.now a.scores.now)) ((here c).bytes a.strip) c.before.loop.invariant.2 c.before.before.before.before.before.requires.1
+    rest-room (piece a.strip c.before.loop.p d (get_or a.scores.now i 0)) (later_bytes a.strip d (from (i + 1) a.docs.now a.scores.now)) ((here c).bytes a.strip) c.before.loop.invariant.2 c.before.before.before.before.before.requires.1
 
 loop-holds : tie.Need-loop-init invariant-loop decreases-loop
 loop-holds c = (search rules, c.before.before.before.requires.0.rise, rest-start _ _ _)
@@ -60,14 +60,14 @@ put-gap-requires c κs =
     let a = c.before.before.before.before.before.before.before.before.args in
     let l = c.before.before.before.before.loop in (
       omega (arith, c.before.before.shared-slice-known3.given l.i),
-      omega (arith, room c.before.before.before, piece-size a.strip l.p (get_or a.docs.now l.i 0) (get_or a.scores.now l.i 0)),
+      omega (arith, room c.before.before.before, piece_size a.strip l.p (get_or a.docs.now l.i 0) (get_or a.scores.now l.i 0)),
     )
 
 put-in-turn-requires : tie.Need-put-in-turn-requires invariant-loop decreases-loop
 put-in-turn-requires c κs =
     let a = c.before.before.before.before.before.before.before.before.before.before.before.before.args in
     let l = c.before.before.before.before.before.before.before.before.loop in
-    omega (arith, room c.before.before.before.before.before.before.before, piece-size a.strip l.p (get_or a.docs.now l.i 0) (get_or a.scores.now l.i 0), stored-length c.before.before.before.put-gap.ensures, c.before.before.before.put-gap.ensures.past)
+    omega (arith, room c.before.before.before.before.before.before.before, piece_size a.strip l.p (get_or a.docs.now l.i 0) (get_or a.scores.now l.i 0), stored-length c.before.before.before.put-gap.ensures, c.before.before.before.put-gap.ensures.past)
 
 add-i : tie.Need-overflow-add-i invariant-loop decreases-loop
 add-i c = search rules
@@ -83,7 +83,7 @@ loop-again c =
     let d = get_or a.docs.now l.i 0 in (
       omega arith,
       t.rise,
-      rest-turn (piece a.strip l.p d (get_or a.scores.now l.i 0)) (laterBytes a.strip d (from (l.i + 1) a.docs.now a.scores.now)) (t.bytes a.strip) l.invariant.2
+      rest-turn (piece a.strip l.p d (get_or a.scores.now l.i 0)) (later_bytes a.strip d (from (l.i + 1) a.docs.now a.scores.now)) (t.bytes a.strip) l.invariant.2
           (stored-append c.before.before.before.before.before.before.put-gap.ensures c.before.before.put-in-turn.ensures),
     )
 
@@ -93,8 +93,8 @@ same_length c = c.before.loop.invariant.2.same
 returns : tie.Need-returns invariant-loop decreases-loop
 returns c = rest_end (later-none c.before.before.before.before.before.args.strip c.before.loop.p c.before.loop.i c.before.before.before.before.before.args.docs.now c.before.before.before.before.before.args.scores.now c.loop-test.false) c.before.loop.invariant.2
 
-pub put-later-spec : {M : Type 1} → statement M
-put-later-spec =
+pub put_later_spec : {M : Type 1} → statement M
+put_later_spec =
     tie.close
     (tie.spec
     invariant-loop

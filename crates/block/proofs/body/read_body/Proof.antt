@@ -10,10 +10,10 @@ use borrow.Author.Rules.{rules}
 use lib.Dec.{eqb}
 use lib.ListN.{length, set, take, drop}
 use Rattle.block.specs.Body.{fits, ReadsInto}
-use Rattle.block.specs.Cursor.{stepAt, postsAt, run_at}
+use Rattle.block.specs.Cursor.{step_at, posts_at, run_at}
 use Rattle.block.specs.declared.cursor.Step.TheVariants.{Posting, End, Bad}
-use Rattle.block.proofs.Steps.{step-onward, fit-end, fit-bad, run_end, run-bad}
-use Rattle.block.proofs.Bodies.{front_of, back-of}
+use Rattle.block.proofs.Steps.{step-onward, fit-end, fit_bad, run_end, run_bad}
+use Rattle.block.proofs.Bodies.{front_of, back_of}
 use Rattle.block.proofs.Fillings.{Filling, fill_start, fill-room, fill-turn, fill_done}
 use Rattle.block.proofs.body.read_body.Statement.{statement}
 use Rattle.block.proofs.body.read_body.Tie as tie
@@ -69,7 +69,7 @@ enum-known-doc c = search rules
 
 -- the step that found a posting, and the room for it
 stepped : (c : tie.After-known-told invariant-loop decreases-loop) →
-    stepAt (front c.before.before.before.before.before) (back c.before.before.before.before.before) c.before.before.before.before.loop.c ≡ Posting c.before.doc.given.0.0 c.before.doc.given.0.1.0 c.before.doc.given.0.1.1.0
+    step_at (front c.before.before.before.before.before) (back c.before.before.before.before.before) c.before.before.before.before.loop.c ≡ Posting c.before.doc.given.0.0 c.before.doc.given.0.1.0 c.before.doc.given.0.1.1.0
 stepped c = cc
 
 room : (c : tie.After-known-told invariant-loop decreases-loop) → (c.before.before.before.before.loop.i < length c.before.before.before.before.loop.docs) × (c.before.before.before.before.loop.i < length c.before.before.before.before.loop.scores)
@@ -118,13 +118,13 @@ done : (c : tie.At-loop invariant-loop decreases-loop) →
     let a = c.before.before.before.before.before.before.before.before.args in
     let l = c.loop in
     run_at (front c.before) (back c.before) l.c ≡ [] →
-    ReadsInto a.m a.s.now a.at a.docs.now a.scores.now l.docs l.scores (fits a.m.greatest a.m.top l.last l.largest (postsAt (front c.before) (back c.before) l.c))
+    ReadsInto a.m a.s.now a.at a.docs.now a.scores.now l.docs l.scores (fits a.m.greatest a.m.top l.last l.largest (posts_at (front c.before) (back c.before) l.c))
 done c n =
     let a = c.before.before.before.before.before.before.before.before.args in
     let l = c.loop in
     let e = c.before.before.before.before.edge.result in
     let q = c.before.before.before.before.edge.ensures.0 in
-    fill_done a.s.now a.m (front c.before) (back c.before) (front_of a.m a.s.now e q) (back-of a.m a.s.now e q)
+    fill_done a.s.now a.m (front c.before) (back c.before) (front_of a.m a.s.now e q) (back_of a.m a.s.now e q)
     c.before.new.result a.at a.docs.now a.scores.now l.docs l.scores l.c l.last l.largest l.i c.before.new.ensures n l.invariant
 
 enum_told : tie.Need-enum-told invariant-loop decreases-loop
@@ -140,8 +140,8 @@ returns : tie.Need-returns invariant-loop decreases-loop
 returns c =
     let m = c.before.before.before.before.before.before.before.before.before.before.before.before.args.m in
     let l = c.before.before.before.before.loop in
-    let f : stepAt (front c.before.before.before.before.before) (back c.before.before.before.before.before) l.c ≡ End = cc in
-    let e : fits m.greatest m.top l.last l.largest (postsAt (front c.before.before.before.before.before) (back c.before.before.before.before.before) l.c) ≡ eqb l.largest m.top = rw (fit-end (front c.before.before.before.before.before) (back c.before.before.before.before.before) l.c m.greatest m.top l.last l.largest f, eq-eqb l.last m.greatest c.if2.true) in
+    let f : step_at (front c.before.before.before.before.before) (back c.before.before.before.before.before) l.c ≡ End = cc in
+    let e : fits m.greatest m.top l.last l.largest (posts_at (front c.before.before.before.before.before) (back c.before.before.before.before.before) l.c) ≡ eqb l.largest m.top = rw (fit-end (front c.before.before.before.before.before) (back c.before.before.before.before.before) l.c m.greatest m.top l.last l.largest f, eq-eqb l.last m.greatest c.if2.true) in
     rw e at (done c.before.before.before.before (run_end (front c.before.before.before.before.before) (back c.before.before.before.before.before) l.c f))
 
 same-length-3 : tie.Need-same-length-3 invariant-loop decreases-loop
@@ -154,8 +154,8 @@ returns-2 : tie.Need-returns-2 invariant-loop decreases-loop
 returns-2 c =
     let m = c.before.before.before.before.before.before.before.before.before.before.before.before.args.m in
     let l = c.before.before.before.before.loop in
-    let f : stepAt (front c.before.before.before.before.before) (back c.before.before.before.before.before) l.c ≡ End = cc in
-    let e : fits m.greatest m.top l.last l.largest (postsAt (front c.before.before.before.before.before) (back c.before.before.before.before.before) l.c) ≡ eqb l.last m.greatest = rw (fit-end (front c.before.before.before.before.before) (back c.before.before.before.before.before) l.c m.greatest m.top l.last l.largest f, ne_eqb l.last m.greatest c.if2.false) in
+    let f : step_at (front c.before.before.before.before.before) (back c.before.before.before.before.before) l.c ≡ End = cc in
+    let e : fits m.greatest m.top l.last l.largest (posts_at (front c.before.before.before.before.before) (back c.before.before.before.before.before) l.c) ≡ eqb l.last m.greatest = rw (fit-end (front c.before.before.before.before.before) (back c.before.before.before.before.before) l.c m.greatest m.top l.last l.largest f, ne_eqb l.last m.greatest c.if2.false) in
     rw e at (done c.before.before.before.before (run_end (front c.before.before.before.before.before) (back c.before.before.before.before.before) l.c f))
 
 enum-told-2 : tie.Need-enum-told-2 invariant-loop decreases-loop
@@ -171,12 +171,12 @@ returns-3 : tie.Need-returns-3 invariant-loop decreases-loop
 returns-3 c =
     let m = c.before.before.before.before.before.before.before.before.before.before.before.args.m in
     let l = c.before.before.before.loop in
-    let f : stepAt (front c.before.before.before.before) (back c.before.before.before.before) l.c ≡ Bad = cc in
-    let e : fits m.greatest m.top l.last l.largest (postsAt (front c.before.before.before.before) (back c.before.before.before.before) l.c) ≡ false = fit-bad (front c.before.before.before.before) (back c.before.before.before.before) l.c m.greatest m.top l.last l.largest f in
-    rw e at (done c.before.before.before (run-bad (front c.before.before.before.before) (back c.before.before.before.before) l.c f))
+    let f : step_at (front c.before.before.before.before) (back c.before.before.before.before) l.c ≡ Bad = cc in
+    let e : fits m.greatest m.top l.last l.largest (posts_at (front c.before.before.before.before) (back c.before.before.before.before) l.c) ≡ false = fit_bad (front c.before.before.before.before) (back c.before.before.before.before) l.c m.greatest m.top l.last l.largest f in
+    rw e at (done c.before.before.before (run_bad (front c.before.before.before.before) (back c.before.before.before.before) l.c f))
 
-pub read-body-spec : {M : Type 1} → statement M
-read-body-spec =
+pub read_body_spec : {M : Type 1} → statement M
+read_body_spec =
     tie.close
     (tie.spec
     invariant-loop

@@ -1,8 +1,8 @@
 -- `block::body::right_body` meets its contract. The invariant: the postings fit from the start as what is left of them fits from here. Assumes nothing.
-use Rattle.block.specs.Body.{fits, rightBody}
-use Rattle.block.specs.Cursor.{stepAt, postsAt}
+use Rattle.block.specs.Body.{fits, right_body}
+use Rattle.block.specs.Cursor.{step_at, posts_at}
 use Rattle.block.specs.declared.cursor.Step.TheVariants.{Posting, End, Bad}
-use Rattle.block.proofs.Steps.{step-onward, fit-posting, fit-end, fit-bad}
+use Rattle.block.proofs.Steps.{step-onward, fit-posting, fit-end, fit_bad}
 use Rattle.block.proofs.Bodies.{right-start}
 use native.Mathlib.Nat.{max-eq_left, max-eq_right, le_of_lt}
 use Prim.Native.Nat.{ℕ, ◌-◌, ◌<◌, max}
@@ -15,7 +15,7 @@ use Rattle.block.proofs.body.right_body.Statement.{statement}
 use Rattle.block.proofs.body.right_body.Tie as tie
 
 abbrev invariant-loop : tie.invariant-loop
-invariant-loop s greatest top e gaps points c₀ last₀ most₀ c last most = fits greatest top 0 0 (postsAt gaps points c₀) ≡ fits greatest top last most (postsAt gaps points c)
+invariant-loop s greatest top e gaps points c₀ last₀ most₀ c last most = fits greatest top 0 0 (posts_at gaps points c₀) ≡ fits greatest top last most (posts_at gaps points c)
 
 abbrev decreases-loop : tie.decreases-loop
 decreases-loop s greatest top e gaps points c₀ last₀ most₀ c last most = c.left
@@ -62,7 +62,7 @@ enum-known-doc c = search rules
 
 -- the step that found a posting
 stepped : (c : tie.After-known-told invariant-loop decreases-loop) →
-    stepAt (front c.before.before.before.before.before) (back c.before.before.before.before.before) c.before.before.before.before.loop.c ≡ Posting c.before.doc.given.0.0 c.before.doc.given.0.1.0 c.before.doc.given.0.1.1.0
+    step_at (front c.before.before.before.before.before) (back c.before.before.before.before.before) c.before.before.before.before.loop.c ≡ Posting c.before.doc.given.0.0 c.before.doc.given.0.1.0 c.before.doc.given.0.1.1.0
 stepped c = cc
 
 onward : (c : tie.After-known-told invariant-loop decreases-loop) → c.before.doc.given.0.1.1.0.left < c.before.before.before.before.loop.c.left
@@ -71,8 +71,8 @@ onward c = (step-onward (front c.before.before.before.before.before) (back c.bef
 -- what is then left to judge
 judged : (c : tie.After-known-told invariant-loop decreases-loop) →
     let m = c.before.before.before.before.before.before.before.before.before.before.args.m in
-    fits m.greatest m.top 0 0 (postsAt (front c.before.before.before.before.before) (back c.before.before.before.before.before) c.before.before.before.before.before.new.result)
-    ≡ fits m.greatest m.top c.before.doc.given.0.0 (max c.before.before.before.before.loop.most c.before.doc.given.0.1.0) (postsAt (front c.before.before.before.before.before) (back c.before.before.before.before.before) c.before.doc.given.0.1.1.0)
+    fits m.greatest m.top 0 0 (posts_at (front c.before.before.before.before.before) (back c.before.before.before.before.before) c.before.before.before.before.before.new.result)
+    ≡ fits m.greatest m.top c.before.doc.given.0.0 (max c.before.before.before.before.loop.most c.before.doc.given.0.1.0) (posts_at (front c.before.before.before.before.before) (back c.before.before.before.before.before) c.before.doc.given.0.1.1.0)
 judged c =
     let m = c.before.before.before.before.before.before.before.before.before.before.args.m in
     let l = c.before.before.before.before.loop in
@@ -95,21 +95,21 @@ enum_told c = search rules
 
 start : (c : tie.After-new invariant-loop decreases-loop) →
     let a = c.before.before.before.before.before.args in
-    rightBody a.m a.s.now ≡ fits a.m.greatest a.m.top 0 0 (postsAt (front c) (back c) c.new.result)
+    right_body a.m a.s.now ≡ fits a.m.greatest a.m.top 0 0 (posts_at (front c) (back c) c.new.result)
 start c = right-start c.before.before.before.before.before.args.m c.before.before.before.before.before.args.s.now c.before.before.before.edge.result c.before.before.before.edge.ensures.0 c.new.result c.new.ensures
 
 returns : tie.Need-returns invariant-loop decreases-loop
 returns c =
     let m = c.before.before.before.before.before.before.before.before.before.before.args.m in
     let l = c.before.before.before.before.loop in
-    let f : stepAt (front c.before.before.before.before.before) (back c.before.before.before.before.before) l.c ≡ End = cc in
+    let f : step_at (front c.before.before.before.before.before) (back c.before.before.before.before.before) l.c ≡ End = cc in
     rw (start c.before.before.before.before.before, l.invariant, fit-end (front c.before.before.before.before.before) (back c.before.before.before.before.before) l.c m.greatest m.top l.last l.most f, eq-eqb l.last m.greatest c.if2.true)
 
 returns-2 : tie.Need-returns-2 invariant-loop decreases-loop
 returns-2 c =
     let m = c.before.before.before.before.before.before.before.before.before.before.args.m in
     let l = c.before.before.before.before.loop in
-    let f : stepAt (front c.before.before.before.before.before) (back c.before.before.before.before.before) l.c ≡ End = cc in
+    let f : step_at (front c.before.before.before.before.before) (back c.before.before.before.before.before) l.c ≡ End = cc in
     rw (start c.before.before.before.before.before, l.invariant, fit-end (front c.before.before.before.before.before) (back c.before.before.before.before.before) l.c m.greatest m.top l.last l.most f, ne_eqb l.last m.greatest c.if2.false)
 
 enum-told-2 : tie.Need-enum-told-2 invariant-loop decreases-loop
@@ -119,11 +119,11 @@ returns-3 : tie.Need-returns-3 invariant-loop decreases-loop
 returns-3 c =
     let m = c.before.before.before.before.before.before.before.before.before.args.m in
     let l = c.before.before.before.loop in
-    let f : stepAt (front c.before.before.before.before) (back c.before.before.before.before) l.c ≡ Bad = cc in
-    rw (start c.before.before.before.before, l.invariant, fit-bad (front c.before.before.before.before) (back c.before.before.before.before) l.c m.greatest m.top l.last l.most f)
+    let f : step_at (front c.before.before.before.before) (back c.before.before.before.before) l.c ≡ Bad = cc in
+    rw (start c.before.before.before.before, l.invariant, fit_bad (front c.before.before.before.before) (back c.before.before.before.before) l.c m.greatest m.top l.last l.most f)
 
-pub right-body-spec : {M : Type 1} → statement M
-right-body-spec =
+pub right_body_spec : {M : Type 1} → statement M
+right_body_spec =
     tie.close
     (tie.spec
     invariant-loop

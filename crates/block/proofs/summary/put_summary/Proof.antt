@@ -1,5 +1,5 @@
 -- `block::put_summary` meets its contract: five stores, one after the other. Assumes nothing.
-use Rattle.model.proofs.Storing.{stored-append, stored-as, stored-length}
+use Rattle.model.proofs.Storing.{stored-append, stored_as, stored-length}
 use Rattle.wire.proofs.Numbers.{be-length}
 use Rattle.block.proofs.Summaries.{sum-parts}
 use native.Mathlib.Omega.{arith}
@@ -27,11 +27,11 @@ same_length c = search rules
 
 returns : tie.Need-returns
 returns c =
-    stored-as (sum-parts c.before.before.before.before.before.before.before.before.before.before.before.before.before.before.before.before.before.before.before.before.before.args.m)
+    stored_as (sum-parts c.before.before.before.before.before.before.before.before.before.before.before.before.before.before.before.before.before.before.before.before.before.args.m)
     (stored-append c.before.before.before.before.before.before.before.before.before.before.before.before.before.before.before.before.before.before.put-head.ensures (stored-append c.before.before.before.before.before.before.before.before.before.before.before.before.before.before.put3.ensures (stored-append c.before.before.before.before.before.before.before.before.before.before.put32.ensures (stored-append c.before.before.before.before.before.before.put2.ensures c.before.before.put1.ensures))))
 
-pub put-summary-spec : {M : Type 1} → statement M
-put-summary-spec =
+pub put_summary_spec : {M : Type 1} → statement M
+put_summary_spec =
     tie.close
     (tie.spec
     put-head-requires

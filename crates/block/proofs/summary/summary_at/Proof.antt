@@ -39,8 +39,8 @@ returns-3 c =
     let f : field_at 2 a.s.now a.at ≡ Missing = cc in
     sym (sum-none a.s.now a.at f)
 
-pub summary-at-spec : {M : Type 1} → statement M
-summary-at-spec =
+pub summary_at_spec : {M : Type 1} → statement M
+summary_at_spec =
     tie.close
     (tie.spec
     field-requires

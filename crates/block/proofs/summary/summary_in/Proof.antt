@@ -34,8 +34,8 @@ returns c =
     let a = c.before.before.before.before.before.args in
     rw (c.before.before.before.be3.ensures, c.before.before.be32.ensures, c.before.be2.ensures, c.be1.ensures) (sym (sum-numbers a.s.now a.at a.strip))
 
-pub summary-in-spec : {M : Type 1} → statement M
-summary-in-spec =
+pub summary_in_spec : {M : Type 1} → statement M
+summary_in_spec =
     tie.close
     (tie.spec
     add-be3

@@ -29,8 +29,8 @@ returns c =
     let q = c.before.before.before.before.before.requires in
     rw c.top_of.ensures (sym (summary-of a.strip a.docs.now a.scores.now q.2 q.0))
 
-pub summary-of-spec : {M : Type 1} → statement M
-summary-of-spec =
+pub summary_of_spec : {M : Type 1} → statement M
+summary_of_spec =
     tie.close
     (tie.spec
     sub-e

@@ -1,6 +1,6 @@
 -- `block::top_of` meets its contract. The invariant: the largest of all is the largest of what is left, from here. Assumes nothing.
-use Rattle.model.specs.Post.{maxFrom}
-use Rattle.model.proofs.Lists.{rest-cons, rest-none}
+use Rattle.model.specs.Post.{max_from}
+use Rattle.model.proofs.Lists.{rest_cons, rest-none}
 use mathlib.Core.Logic.{⊎_elim}
 use Prim.Native.Nat.{ℕ, ◌+◌, ◌-◌, ◌≤◌, max}
 use native.Mathlib.Omega.{arith}
@@ -11,7 +11,7 @@ use Rattle.block.proofs.summary.top_of.Statement.{statement}
 use Rattle.block.proofs.summary.top_of.Tie as tie
 
 abbrev invariant-loop : tie.invariant-loop
-invariant-loop scores m₀ i₀ m i = (i ≤ length scores) × (maxFrom 0 scores ≡ maxFrom m (drop i scores))
+invariant-loop scores m₀ i₀ m i = (i ≤ length scores) × (max_from 0 scores ≡ max_from m (drop i scores))
 
 abbrev decreases-loop : tie.decreases-loop
 decreases-loop scores m₀ i₀ m i = length scores - i
@@ -35,16 +35,16 @@ loop-again : tie.Need-loop-preserved invariant-loop decreases-loop
 loop-again c =
     let l = c.before.before.before.loop in
     let s = c.before.before.before.before.args.scores.now in
-    let m : maxFrom 0 s ≡ maxFrom (max l.m (get_or s l.i 0)) (drop (l.i + 1) s) = l.invariant.1 ∙ rw (rest-cons s l.i c.before.before.loop-test.true) in
-    (omega arith, m ∙ ap (λ (x : ℕ). maxFrom x (drop (l.i + 1) s)) (⊎_elim (λ w. omega arith) (λ w. omega arith) c.if1.branch))
+    let m : max_from 0 s ≡ max_from (max l.m (get_or s l.i 0)) (drop (l.i + 1) s) = l.invariant.1 ∙ rw (rest_cons s l.i c.before.before.loop-test.true) in
+    (omega arith, m ∙ ap (λ (x : ℕ). max_from x (drop (l.i + 1) s)) (⊎_elim (λ w. omega arith) (λ w. omega arith) c.if1.branch))
 
 returns : tie.Need-returns invariant-loop decreases-loop
 returns c =
     let l = c.before.loop in
     sym (l.invariant.1 ∙ rw (rest-none c.before.before.args.scores.now l.i c.loop-test.false))
 
-pub top-of-spec : {M : Type 1} → statement M
-top-of-spec =
+pub top_of_spec : {M : Type 1} → statement M
+top_of_spec =
     tie.close
     (tie.spec
     invariant-loop

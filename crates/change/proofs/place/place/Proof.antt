@@ -3,10 +3,10 @@ use native.Mathlib.Omega.{arith}
 use mathlib.Core.Path.{◌≡◌}
 use lib.ListN.{length}
 use Rattle.list.proofs.Faults.{gives-refused}
-use Rattle.change.specs.Seat.{Placeable, stripBy}
+use Rattle.change.specs.Seat.{Placeable, strip_by}
 use Rattle.change.specs.declared.seat.Seat.TheVariants.{Taken, Free}
 use Rattle.change.proofs.Pieces.{sound-lists}
-use Rattle.change.proofs.News.{place-many, place-full, place-free, place-taken}
+use Rattle.change.proofs.News.{place_many, place_full, place-free, place-taken}
 use borrow.Author.Rules.{rules}
 use Rattle.change.proofs.place.place.Statement.{statement}
 use Rattle.change.proofs.place.place.Tie as tie
@@ -15,7 +15,7 @@ returns : tie.Need-returns
 returns c =
     let b = c.before.before.before.before.before in
     let a = b.args in
-    λ ls e. gives-refused a.out.now (place-many a.s.now (length ls) a.term a.docs.now a.scores.now (length a.out.now) b.requires.same a.seat c.if1.true)
+    λ ls e. gives-refused a.out.now (place_many a.s.now (length ls) a.term a.docs.now a.scores.now (length a.out.now) b.requires.same a.seat c.if1.true)
 
 strip-of-requires : tie.Need-strip-of-requires
 strip-of-requires c κs =
@@ -49,7 +49,7 @@ returns-2 c =
     let a = b.args in
     let p = c.before.before.before.seat2.given.0.0 in
     let k : a.seat ≡ Free p = cc in
-    λ ls e. rw k (gives-refused a.out.now (place-full a.s.now (length ls) a.term a.docs.now a.scores.now (length a.out.now) b.requires.same p c.before.before.before.before.before.before.if1.false (omega (arith, c.before.lists-in.ensures ls e, c.if2.true))))
+    λ ls e. rw k (gives-refused a.out.now (place_full a.s.now (length ls) a.term a.docs.now a.scores.now (length a.out.now) b.requires.same p c.before.before.before.before.before.before.if1.false (omega (arith, c.before.lists-in.ensures ls e, c.if2.true))))
 
 splice-requires-2 : tie.Need-splice-requires-2
 splice-requires-2 c κs =
@@ -69,7 +69,7 @@ returns-3 c =
     let a = b.args in
     let p = c.before.before.before.before.before.seat.given.0.0 in
     let k : a.seat ≡ Taken p = cc in
-    let layout : c.before.before.before.before.before.before.before.strip-of.result ≡ stripBy a.s.now (Taken p) = rw k at c.before.before.before.before.before.before.before.strip-of.ensures in
+    let layout : c.before.before.before.before.before.before.before.strip-of.result ≡ strip_by a.s.now (Taken p) = rw k at c.before.before.before.before.before.before.before.strip-of.ensures in
     λ ls e. rw (k, place-taken a.s.now (length ls) a.term a.docs.now a.scores.now (length a.out.now) b.requires.same p c.before.before.before.before.before.before.before.before.if1.false (sound-lists a.s.now ls e), ← layout) c.before.before.splice.ensures
 
 same-length-2 : tie.Need-same-length-2
@@ -81,11 +81,11 @@ returns-4 c =
     let a = b.args in
     let p = c.before.before.before.before.before.before.before.seat2.given.0.0 in
     let k : a.seat ≡ Free p = cc in
-    let layout : c.before.before.before.before.before.before.before.before.before.strip-of.result ≡ stripBy a.s.now (Free p) = rw k at c.before.before.before.before.before.before.before.before.before.strip-of.ensures in
+    let layout : c.before.before.before.before.before.before.before.before.before.strip-of.result ≡ strip_by a.s.now (Free p) = rw k at c.before.before.before.before.before.before.before.before.before.strip-of.ensures in
     λ ls e. rw (k, place-free a.s.now (length ls) a.term a.docs.now a.scores.now (length a.out.now) b.requires.same p c.before.before.before.before.before.before.before.before.before.before.if1.false (omega (arith, c.before.before.before.before.before.lists-in.ensures ls e, c.before.before.before.before.if2.false)), ← layout) c.before.before.splice2.ensures
 
-pub place-spec : {M : Type 1} → statement M
-place-spec =
+pub place_spec : {M : Type 1} → statement M
+place_spec =
     tie.close
     (tie.spec
     returns

@@ -89,8 +89,8 @@ returns c =
     let l = c.before.loop in
     insert-done b.args.d b.args.w b.args.n b.args.docs.now b.args.scores.now b.requires l.docs l.scores l.i l.carried l.invariant c.loop-test.false
 
-pub insert-spec : {M : Type 1} → statement M
-insert-spec =
+pub insert_spec : {M : Type 1} → statement M
+insert_spec =
     tie.close
     (tie.spec
     invariant-loop

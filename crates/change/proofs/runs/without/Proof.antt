@@ -2,7 +2,7 @@
 use Prim.Native.Nat.{◌+◌, ◌-◌}
 use mathlib.Core.Logic.{⊎_elim}
 use native.Mathlib.Omega.{arith}
-use Rattle.change.proofs.Runnings.{Clearing, clear-start, clear_stays, clear-goes, clear-as, clear-done}
+use Rattle.change.proofs.Runnings.{Clearing, clear-start, clear_stays, clear_goes, clear_as, clear-done}
 use Rattle.change.proofs.runs.without.Statement.{statement}
 use Rattle.change.proofs.runs.without.Tie as tie
 
@@ -55,10 +55,10 @@ loop-again c =
     let t = c.before.before.before.loop-test.true in
     let a = b.args in
     ⊎_elim
-    (λ w. clear-as a.d a.n a.docs.now a.scores.now b.requires.0 b.requires.1 (l.i + 1) w.1 w.2 w.3
+    (λ w. clear_as a.d a.n a.docs.now a.scores.now b.requires.0 b.requires.1 (l.i + 1) w.1 w.2 w.3
     (clear_stays a.d a.n a.docs.now a.scores.now b.requires.0 b.requires.1 l.docs l.scores l.i l.j t l.invariant w.0.taken))
-    (λ w. clear-as a.d a.n a.docs.now a.scores.now b.requires.0 b.requires.1 (l.i + 1) w.1 w.2 w.3
-    (clear-goes a.d a.n a.docs.now a.scores.now b.requires.0 b.requires.1 l.docs l.scores l.i l.j t l.invariant w.0.left))
+    (λ w. clear_as a.d a.n a.docs.now a.scores.now b.requires.0 b.requires.1 (l.i + 1) w.1 w.2 w.3
+    (clear_goes a.d a.n a.docs.now a.scores.now b.requires.0 b.requires.1 l.docs l.scores l.i l.j t l.invariant w.0.left))
     c.if1.branch
 
 same_length : tie.Need-same-length invariant-loop decreases-loop
@@ -73,8 +73,8 @@ returns c =
     let l = c.before.loop in
     clear-done b.args.d b.args.n b.args.docs.now b.args.scores.now b.requires.0 b.requires.1 l.docs l.scores l.i l.j c.loop-test.false l.invariant
 
-pub without-spec : {M : Type 1} → statement M
-without-spec =
+pub without_spec : {M : Type 1} → statement M
+without_spec =
     tie.close
     (tie.spec
     invariant-loop

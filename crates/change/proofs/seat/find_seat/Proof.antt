@@ -10,7 +10,7 @@ use mathlib.Core.Path.{◌≡◌}
 use mathlib.Core.List.{List}
 use Rattle.model.specs.Outcome.{done}
 use Rattle.shelf.specs.Check.{checked}
-use Rattle.change.proofs.Seats.{list-onward, Seating, seat-start, seat-end, seat-never, seat-before, seat-here, seat-on}
+use Rattle.change.proofs.Seats.{list-onward, Seating, seat_start, seat_end, seat_never, seat_before, seat_here, seat_on}
 use Rattle.change.proofs.seat.find_seat.Statement.{statement}
 use Rattle.change.proofs.seat.find_seat.Tie as tie
 
@@ -21,7 +21,7 @@ abbrev decreases-loop : tie.decreases-loop
 decreases-loop s term at₀ floor₀ at floor = length s - at
 
 loop-holds : tie.Need-loop-init invariant-loop decreases-loop
-loop-holds c = (omega arith, λ ls e. seat-start c.before.args.s.now c.before.args.term ls e)
+loop-holds c = (omega arith, λ ls e. seat_start c.before.args.s.now c.before.args.term ls e)
 
 list-at-requires : tie.Need-list-at-requires invariant-loop decreases-loop
 list-at-requires c κs = search rules
@@ -45,14 +45,14 @@ returns c =
     let k = c.before.before in
     let l = k.before.before.before.before.before.loop in
     let b = k.before.before.before.before.before.before.before in
-    λ ls e. seat-before b.args.s.now b.args.term ls l.floor l.at (l.invariant.1 ls e) k.before.p.given.0.0 k.before.before.before.before.loop-test.true (found k) c.if1.true
+    λ ls e. seat_before b.args.s.now b.args.term ls l.floor l.at (l.invariant.1 ls e) k.before.p.given.0.0 k.before.before.before.before.loop-test.true (found k) c.if1.true
 
 returns-2 : tie.Need-returns-2 invariant-loop decreases-loop
 returns-2 c =
     let k = c.before.before.before.before in
     let l = k.before.before.before.before.before.loop in
     let b = k.before.before.before.before.before.before.before in
-    λ ls e. seat-here b.args.s.now b.args.term ls l.floor l.at (l.invariant.1 ls e) k.before.p.given.0.0 k.before.before.before.before.loop-test.true (found k) c.if2.true
+    λ ls e. seat_here b.args.s.now b.args.term ls l.floor l.at (l.invariant.1 ls e) k.before.p.given.0.0 k.before.before.before.before.loop-test.true (found k) c.if2.true
 
 cast-floor : tie.Need-overflow-cast-floor invariant-loop decreases-loop
 cast-floor c = search rules
@@ -70,7 +70,7 @@ loop-again c =
     let b = k.before.before.before.before.before.before.before in
     let p = k.before.p.given.0.0 in
     let above : p.term < b.args.term = omega (arith, c.before.if2.false, c.before.before.before.if1.false) in
-    ((onward k).1, λ ls e. seat-on b.args.s.now b.args.term ls l.floor l.at (l.invariant.1 ls e) p k.before.before.before.before.loop-test.true (found k) above)
+    ((onward k).1, λ ls e. seat_on b.args.s.now b.args.term ls l.floor l.at (l.invariant.1 ls e) p k.before.before.before.before.loop-test.true (found k) above)
 
 enum-known-n : tie.Need-enum-known-n invariant-loop decreases-loop
 enum-known-n c = search rules
@@ -80,16 +80,16 @@ returns-3 c =
     let l = c.before.before.before.before.before.loop in
     let b = c.before.before.before.before.before.before.before in
     let f : list_of (list l.floor l.at (drop l.at b.args.s.now)) ≡ Not c.before.n.given.0.0 c.before.n.given.0.1.0 = cc in
-    λ ls e. seat-never b.args.s.now b.args.term ls l.floor l.at (l.invariant.1 ls e) c.before.before.before.before.loop-test.true c.before.n.given.0.0 c.before.n.given.0.1.0 f
+    λ ls e. seat_never b.args.s.now b.args.term ls l.floor l.at (l.invariant.1 ls e) c.before.before.before.before.loop-test.true c.before.n.given.0.0 c.before.n.given.0.1.0 f
 
 returns-4 : tie.Need-returns-4 invariant-loop decreases-loop
 returns-4 c =
     let l = c.before.loop in
     let b = c.before.before.before in
-    λ ls e. seat-end b.args.s.now b.args.term ls l.floor l.at (l.invariant.1 ls e) c.loop-test.false
+    λ ls e. seat_end b.args.s.now b.args.term ls l.floor l.at (l.invariant.1 ls e) c.loop-test.false
 
-pub find-seat-spec : {M : Type 1} → statement M
-find-seat-spec =
+pub find_seat_spec : {M : Type 1} → statement M
+find_seat_spec =
     tie.close
     (tie.spec
     invariant-loop

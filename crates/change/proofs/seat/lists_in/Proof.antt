@@ -76,8 +76,8 @@ returns-2 c =
     let b = c.before.before.before in
     λ ls e. count-end b.args.s.now ls l.floor l.at l.n (l.invariant.2 ls e) c.loop-test.false
 
-pub lists-in-spec : {M : Type 1} → statement M
-lists-in-spec =
+pub lists_in_spec : {M : Type 1} → statement M
+lists_in_spec =
     tie.close
     (tie.spec
     invariant-loop

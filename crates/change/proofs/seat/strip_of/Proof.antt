@@ -50,8 +50,8 @@ returns c =
 returns-2 : tie.Need-returns-2
 returns-2 c = search rules
 
-pub strip-of-spec : {M : Type 1} → statement M
-strip-of-spec =
+pub strip_of_spec : {M : Type 1} → statement M
+strip_of_spec =
     tie.close
     (tie.spec
     enum-known-seat

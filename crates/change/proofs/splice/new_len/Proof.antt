@@ -21,5 +21,5 @@ returns-2 c =
     let b = c.before.before.before.before in
     λ strip t. c.list-len.ensures strip t ∙ sym (ap length (new-some strip t b.args.docs.now b.args.scores.now b.requires.same c.before.if1.false))
 
-pub new-len-spec : {M : Type 1} → statement M
-new-len-spec = tie.close (tie.spec returns list-len-requires returns-2)
+pub new_len_spec : {M : Type 1} → statement M
+new_len_spec = tie.close (tie.spec returns list-len-requires returns-2)

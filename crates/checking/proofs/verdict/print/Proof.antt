@@ -8,7 +8,7 @@ use Rattle.shelf.specs.Check.{paper}
 use Rattle.shelf.specs.declared.check.Checked.{Checked}
 use Rattle.shelf.specs.declared.check.Checked.TheVariants.{Sound, Fault}
 use Rattle.lines.proofs.Sizes.{refusal-short}
-use Rattle.checking.specs.Verdict.{verdictText}
+use Rattle.checking.specs.Verdict.{verdict_text}
 use Rattle.checking.proofs.verdict.print.Statement.{statement}
 use Rattle.checking.proofs.verdict.print.Tie as tie
 
@@ -34,7 +34,7 @@ returns : tie.Need-returns
 returns c =
     let a = c.before.before.before.before.before.before.before.before.args in
     let e : a.found ≡ Sound = cc in
-    subst (λ (x : Checked). Holds a.out.now (verdictText (paper x)) c.before.before.put_word.new.0 c.before.before.put_word.result) (sym e)
+    subst (λ (x : Checked). Holds a.out.now (verdict_text (paper x)) c.before.before.put_word.new.0 c.before.before.put_word.result) (sym e)
     (stored-holds (omega (arith, c.before.before.before.before.before.before.before.before.requires)) c.before.before.put_word.ensures)
 
 same-length-2 : tie.Need-same-length-2
@@ -45,11 +45,11 @@ returns-2 c =
     let a = c.before.before.before.before.before.before.before.before.args in
     let f = c.before.before.before.before.before.found.given in
     let e : a.found ≡ Fault f.0.0 f.0.1.0 = cc in
-    subst (λ (x : Checked). Holds a.out.now (verdictText (paper x)) c.before.before.put-refusal.new.0 c.before.before.put-refusal.result) (sym e)
+    subst (λ (x : Checked). Holds a.out.now (verdict_text (paper x)) c.before.before.put-refusal.new.0 c.before.before.put-refusal.result) (sym e)
     (stored-holds (omega (arith, c.before.before.before.before.before.before.before.before.requires, refusal-short f.0.0 f.0.1.0)) c.before.before.put-refusal.ensures)
 
-pub print-spec : {M : Type 1} → statement M
-print-spec =
+pub print_spec : {M : Type 1} → statement M
+print_spec =
     tie.close
     (tie.spec
     enum_told

@@ -3,8 +3,8 @@ use mathlib.Core.Path.{◌≡◌}
 use borrow.Author.Rules.{rules}
 use Rattle.lines.specs.Text.{codes}
 use Rattle.lines.specs.declared.said.Start.TheVariants.{Stop, Answer}
-use Rattle.lines.proofs.Speaking.{speaks-stop, speaks-answer, answer-room}
-use Rattle.checking.specs.Verdict.{checkedText}
+use Rattle.lines.proofs.Speaking.{speaks_stop, speaks_answer, answer-room}
+use Rattle.checking.specs.Verdict.{checked_text}
 use Rattle.checking.proofs.verdict.respond.Statement.{statement}
 use Rattle.checking.proofs.verdict.respond.Tie as tie
 
@@ -25,7 +25,7 @@ show-requires c κs =
     let a = c.before.before.before.before.before.before.before.before.before.before.before.args in
     let b = c.before.before.before.before.before.begin in
     let e : b.result ≡ Answer = cc in
-    answer-room (codes "checker") (checkedText a.shelf.now) a.out.now a.err.now b.new.1.1.1.0 a.read b.result b.ensures e
+    answer-room (codes "checker") (checked_text a.shelf.now) a.out.now a.err.now b.new.1.1.1.0 a.read b.result b.ensures e
 
 same_length : tie.Need-same-length
 same_length c = search rules
@@ -35,7 +35,7 @@ returns c =
     let a = c.before.before.before.before.before.before.before.before.before.before.before.args in
     let b = c.before.before.before.before.before.begin in
     let e : b.result ≡ Stop c.before.n.given.0.0 = cc in
-    speaks-stop (codes "checker") (checkedText a.shelf.now) a.out.now a.err.now b.new.1.1.1.0 a.read b.result b.ensures c.before.n.given.0.0 e
+    speaks_stop (codes "checker") (checked_text a.shelf.now) a.out.now a.err.now b.new.1.1.1.0 a.read b.result b.ensures c.before.n.given.0.0 e
 
 same-length-2 : tie.Need-same-length-2
 same-length-2 c = search rules
@@ -48,11 +48,11 @@ returns-2 c =
     let a = c.before.before.before.before.before.before.before.before.before.before.before.before.before.before.args in
     let b = c.before.before.before.before.before.before.before.before.begin in
     let e : b.result ≡ Answer = cc in
-    speaks-answer (codes "checker") (checkedText a.shelf.now) a.out.now a.err.now b.new.1.1.1.0 a.read b.result b.ensures
+    speaks_answer (codes "checker") (checked_text a.shelf.now) a.out.now a.err.now b.new.1.1.1.0 a.read b.result b.ensures
     c.before.before.show.new.1.0 c.before.before.show.result e c.before.before.show.ensures
 
-pub respond-spec : {M : Type 1} → statement M
-respond-spec =
+pub respond_spec : {M : Type 1} → statement M
+respond_spec =
     tie.close
     (tie.spec
     slice-aggregate-begin

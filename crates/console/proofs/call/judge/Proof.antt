@@ -7,7 +7,7 @@ use mir.Facts.{to_z-of_z, Fits-nat_abs, sfits_to_z, Fits-of_z}
 use Rattle.console.specs.declared.call.Call.{Call}
 use Rattle.console.specs.declared.call.Call.TheVariants.{Again, Failed}
 use Rattle.console.specs.Calls.{call_of}
-use Rattle.console.proofs.Judged.{above_zero, judge-less, judge-most, judge-error, judge-end, again, fails}
+use Rattle.console.proofs.Judged.{above_zero, judge_less, judge-most, judge-error, judge-end, again, fails}
 use Rattle.console.proofs.call.judge.Statement.{statement}
 use Rattle.console.proofs.call.judge.Tie as tie
 
@@ -29,7 +29,7 @@ cast-n c = (above_zero (read c.before) c.if1.true, Fits-nat_abs {w = w64} {w' = 
 
 returns : tie.Need-returns
 unfolding read
-returns c = let s = c.before.before in as_read s _ (judge-less s.args.error s.args.room (read s) c.before.if1.true c.if2.true)
+returns c = let s = c.before.before in as_read s _ (judge_less s.args.error s.args.room (read s) c.before.if1.true c.if2.true)
 
 returns-2 : tie.Need-returns-2
 unfolding read
@@ -49,5 +49,5 @@ returns-5 : tie.Need-returns-5
 unfolding read
 returns-5 c = let s = c.before.before in as_read s _ (judge-end s.args.error s.args.room (read s) c.before.if1.false c.if3.false)
 
-pub judge-spec : {M : Type 1} → statement M
-judge-spec = tie.close (tie.spec cast-n returns returns-2 returns-3 returns-4 returns-5)
+pub judge_spec : {M : Type 1} → statement M
+judge_spec = tie.close (tie.spec cast-n returns returns-2 returns-3 returns-4 returns-5)

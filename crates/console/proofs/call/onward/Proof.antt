@@ -59,8 +59,8 @@ returns-5 c =
     let f : c.before.before.args.call ≡ Failed = cc in
     rw f
 
-pub onward-spec : {M : Type 1} → statement M
-onward-spec =
+pub onward_spec : {M : Type 1} → statement M
+onward_spec =
     tie.close
     (tie.spec
     enum-known-call

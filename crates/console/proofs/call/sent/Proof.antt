@@ -31,8 +31,8 @@ returns-3 c = search rules
 returns-4 : tie.Need-returns-4
 returns-4 c = search rules
 
-pub sent-spec : {M : Type 1} → statement M
-sent-spec =
+pub sent_spec : {M : Type 1} → statement M
+sent_spec =
     tie.close
     (tie.spec
     enum-known-call

@@ -3,7 +3,7 @@ use mathlib.Core.Path.{◌≡◌}
 use native.Mathlib.Omega.{arith}
 use lib.ListN.{length}
 use Rattle.console.specs.Calls.{Moving}
-use Rattle.console.proofs.Judged.{moving-judged}
+use Rattle.console.proofs.Judged.{moving_judged}
 use borrow.Author.Rules.{rules}
 use Rattle.console.proofs.input.read_some.Statement.{statement}
 use Rattle.console.proofs.input.read_some.Tie as tie
@@ -26,9 +26,9 @@ returns c =
     let old = length a.args.buf.now in
     let new = length c.before.before.before.before.read.new.1.0 in
     let same : new ≡ old = search rules in
-    let m : Moving c.judge.result new = moving-judged _ _ new c.judge.result (omega (arith, a.requires)) c.judge.ensures in
+    let m : Moving c.judge.result new = moving_judged _ _ new c.judge.result (omega (arith, a.requires)) c.judge.ensures in
     rw same at m
 
-pub read-some-spec : {M : Type 1} → statement M
-read-some-spec =
+pub read_some_spec : {M : Type 1} → statement M
+read_some_spec =
     tie.close (tie.spec read-requires errno-requires judge-requires same_length returns)

@@ -90,8 +90,8 @@ same-length-2 c = omega arith
 returns-2 : tie.Need-returns-2 invariant-loop decreases-loop
 returns-2 c = read-wholly c.before.loop.buf c.before.loop.done c.before.loop.invariant.0
 
-pub read-whole-spec : {M : Type 1} → statement M
-read-whole-spec =
+pub read_whole_spec : {M : Type 1} → statement M
+read_whole_spec =
     tie.close
     (tie.spec
     invariant-loop

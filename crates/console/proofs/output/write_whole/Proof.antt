@@ -77,8 +77,8 @@ returns c = λ e. absurd (omega (arith, c.before.before.before.before.before.bef
 returns-2 : tie.Need-returns-2 invariant-loop decreases-loop
 returns-2 c = λ e. refl
 
-pub write-whole-spec : {M : Type 1} → statement M
-write-whole-spec =
+pub write_whole_spec : {M : Type 1} → statement M
+write_whole_spec =
     tie.close
     (tie.spec
     invariant-loop

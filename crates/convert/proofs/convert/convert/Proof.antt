@@ -45,8 +45,8 @@ returns-2 c =
     let e : k.result ≡ Fault n o = cc in
     gives-refused a.out.now (converted-fault a.term a.s.now (length a.out.now) n o (sym k.ensures ∙ ap paper e))
 
-pub convert-spec : {M : Type 1} → statement M
-convert-spec =
+pub convert_spec : {M : Type 1} → statement M
+convert_spec =
     tie.close
     (tie.spec
     check-requires

@@ -9,7 +9,7 @@ use Rattle.shelf.specs.Check.{checked}
 use Rattle.list.proofs.Faults.{gives-refused}
 use Rattle.change.specs.declared.seat.Seat.TheVariants.{Taken, Free}
 use Rattle.change.proofs.Pieces.{judged-lists}
-use Rattle.convert.proofs.Seatings.{refuses-none, refuses-tight, seat-turnable, seat-gives}
+use Rattle.convert.proofs.Seatings.{refuses_none, refuses_tight, seat_turnable, seat_gives}
 use Rattle.convert.proofs.convert.convert_sound.Statement.{statement}
 use Rattle.convert.proofs.convert.convert_sound.Tie as tie
 
@@ -28,7 +28,7 @@ returns c =
     let f = c.before.before.before.before.find-seat in
     let p = c.before.before.list.given.0.0 in
     let q : f.result ≡ Taken p = cc in
-    λ ls e. gives-refused b.args.out.now (refuses-tight b.args.s.now ls (λ i. omega (arith, c.before.before.before.before.before.before.shared-slice-known.given i)) e b.args.term p (sym q ∙ f.ensures ls e) (length b.args.out.now) c.if1.true)
+    λ ls e. gives-refused b.args.out.now (refuses_tight b.args.s.now ls (λ i. omega (arith, c.before.before.before.before.before.before.shared-slice-known.given i)) e b.args.term p (sym q ∙ f.ensures ls e) (length b.args.out.now) c.if1.true)
 
 copy-requires : tie.Need-copy-requires
 copy-requires c κs = search rules
@@ -40,7 +40,7 @@ turn-bodies-requires c κs =
     let p = c.before.before.before.before.before.before.before.list.given.0.0 in
     let q : f.result ≡ Taken p = cc in
     let l = judged-lists (checked b.args.s.now) b.requires in
-    seat-turnable b.args.s.now l.0 (λ i. omega (arith, c.before.before.before.before.before.before.before.before.before.before.before.shared-slice-known.given i)) l.1 b.args.term p (sym q ∙ f.ensures l.0 l.1) _ (omega (arith, c.before.before.before.before.before.if1.false, stored-length c.before.before.before.copy.ensures))
+    seat_turnable b.args.s.now l.0 (λ i. omega (arith, c.before.before.before.before.before.before.before.before.before.before.before.shared-slice-known.given i)) l.1 b.args.term p (sym q ∙ f.ensures l.0 l.1) _ (omega (arith, c.before.before.before.before.before.if1.false, stored-length c.before.before.before.copy.ensures))
 
 returns-2 : tie.Need-returns-2
 returns-2 c =
@@ -48,7 +48,7 @@ returns-2 c =
     let f = c.before.before.before.find-seat in
     let p = c.before.at.given.0.0 in
     let q : f.result ≡ Free p = cc in
-    λ ls e. gives-refused b.args.out.now (refuses-none b.args.s.now ls (λ i. omega (arith, c.before.before.before.before.before.shared-slice-known.given i)) e b.args.term p (length b.args.out.now) (sym q ∙ f.ensures ls e))
+    λ ls e. gives-refused b.args.out.now (refuses_none b.args.s.now ls (λ i. omega (arith, c.before.before.before.before.before.shared-slice-known.given i)) e b.args.term p (length b.args.out.now) (sym q ∙ f.ensures ls e))
 
 same_length : tie.Need-same-length
 same_length c = search rules
@@ -59,10 +59,10 @@ returns-3 c =
     let f = c.before.before.before.before.before.before.before.before.before.before.before.before.find-seat in
     let p = c.before.before.before.before.before.before.before.before.before.before.list.given.0.0 in
     let q : f.result ≡ Taken p = cc in
-    λ ls e. seat-gives b.args.s.now ls (λ i. omega (arith, c.before.before.before.before.before.before.before.before.before.before.before.before.before.before.shared-slice-known.given i)) e b.args.term p (sym q ∙ f.ensures ls e) b.args.out.now _ _ _ (omega (arith, c.before.before.before.before.before.before.before.before.if1.false)) c.before.before.before.before.before.before.copy.ensures c.before.before.turn-bodies.ensures
+    λ ls e. seat_gives b.args.s.now ls (λ i. omega (arith, c.before.before.before.before.before.before.before.before.before.before.before.before.before.before.shared-slice-known.given i)) e b.args.term p (sym q ∙ f.ensures ls e) b.args.out.now _ _ _ (omega (arith, c.before.before.before.before.before.before.before.before.if1.false)) c.before.before.before.before.before.before.copy.ensures c.before.before.turn-bodies.ensures
 
-pub convert-sound-spec : {M : Type 1} → statement M
-convert-sound-spec =
+pub convert_sound_spec : {M : Type 1} → statement M
+convert_sound_spec =
     tie.close
     (tie.spec
     find-seat-requires

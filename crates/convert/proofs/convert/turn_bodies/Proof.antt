@@ -3,10 +3,10 @@ use native.Mathlib.Omega.{arith}
 use mathlib.Core.Path.{◌≡◌}
 use borrow.Author.Rules.{rules}
 use Rattle.model.specs.Runs.{Bytes}
-use Rattle.shelf.specs.Walk.{stripOf}
-use Rattle.shelf.specs.Blocks.{blocksLeft, Steps}
+use Rattle.shelf.specs.Walk.{strip_of}
+use Rattle.shelf.specs.Blocks.{blocks_left, Steps}
 use Rattle.shelf.specs.declared.blocks.BlockStep.TheVariants.{Block, Last}
-use Rattle.convert.specs.Convert.{turnedBodies}
+use Rattle.convert.specs.Convert.{turned_bodies}
 use Rattle.convert.proofs.Turnings.{TurningFrom, turning-start, turning-room, turning-on, turning-done}
 use Rattle.convert.proofs.convert.turn_bodies.Statement.{statement}
 use Rattle.convert.proofs.convert.turn_bodies.Tie as tie
@@ -61,7 +61,7 @@ turn-body-requires c κs =
     let a = c.before.before.before.before.before.before.before.before.before.before.args in
     let n = c.before.before.before.before.before.before.before.new.result in
     let g = c.before.before.before.m.given in
-    turning-room a.s.now (stripOf (blocksLeft a.s.now n)) n.body (turnedBodies (blocksLeft a.s.now n)) a.out.now l.out l.r (bytes c.before.before) f.0 g.0.1.0 g.0.1.1.0 g.0.1.1.1.0 g.0.0 f.1 f.2 l.invariant
+    turning-room a.s.now (strip_of (blocks_left a.s.now n)) n.body (turned_bodies (blocks_left a.s.now n)) a.out.now l.out l.r (bytes c.before.before) f.0 g.0.1.0 g.0.1.1.0 g.0.1.1.1.0 g.0.0 f.1 f.2 l.invariant
 
 loop-less : tie.Need-loop-smaller invariant-loop decreases-loop
 loop-less c = (found c.before.before.before.before.before).2.fewer
@@ -73,7 +73,7 @@ loop-again c =
     let a = c.before.before.before.before.before.before.before.before.before.before.before.before.before.args in
     let n = c.before.before.before.before.before.before.before.before.before.before.new.result in
     let g = c.before.before.before.before.before.before.m.given in
-    turning-on a.s.now (stripOf (blocksLeft a.s.now n)) n.body (turnedBodies (blocksLeft a.s.now n)) a.out.now l.out l.r (bytes c.before.before.before.before.before) f.0 g.0.1.0 g.0.1.1.0 g.0.1.1.1.0 g.0.0 f.1 f.2 l.invariant c.before.before.turn_body.new.1.1.0 c.before.before.turn_body.result c.before.before.turn_body.ensures
+    turning-on a.s.now (strip_of (blocks_left a.s.now n)) n.body (turned_bodies (blocks_left a.s.now n)) a.out.now l.out l.r (bytes c.before.before.before.before.before) f.0 g.0.1.0 g.0.1.1.0 g.0.1.1.1.0 g.0.0 f.1 f.2 l.invariant c.before.before.turn_body.new.1.1.0 c.before.before.turn_body.result c.before.before.turn_body.ensures
 
 enum_told : tie.Need-enum-told invariant-loop decreases-loop
 enum_told c = search rules
@@ -90,8 +90,8 @@ returns c =
     let d : Steps a.s.now l.r Last = rw e at c.before.before.next.ensures in
     turning-done a.s.now a.list n.result a.out.now l.out l.r n.ensures d.0 l.invariant
 
-pub turn-bodies-spec : {M : Type 1} → statement M
-turn-bodies-spec =
+pub turn_bodies_spec : {M : Type 1} → statement M
+turn_bodies_spec =
     tie.close
     (tie.spec
     invariant-loop

@@ -6,9 +6,9 @@ use mathlib.Core.List.{List}
 use borrow.Author.Rules.{rules}
 use lib.ListN.{length}
 use Rattle.model.specs.Post.{Post}
-use Rattle.model.proofs.Storing.{stored-as}
-use Rattle.wire.specs.Field.{fieldBytes}
-use Rattle.block.specs.Body.{tagOf, bodyBytes}
+use Rattle.model.proofs.Storing.{stored_as}
+use Rattle.wire.specs.Field.{field_bytes}
+use Rattle.block.specs.Body.{tag_of, body_bytes}
 use Rattle.convert.proofs.Turnings.{lent-posts, lent_writable}
 use Rattle.convert.proofs.convert.turn_body.Statement.{statement}
 use Rattle.convert.proofs.convert.turn_body.Tie as tie
@@ -58,12 +58,12 @@ returns c =
     let b = c.before.before.before.before.before.before.before.before.before.before.before.before.before.before.before.before.before in
     let r = c.before.before.before.before.before.before.before.before.before.before.before.before.read-body in
     let strip = not b.args.m.strip in
-    stored-as (ap (λ (ps : List Post). fieldBytes (tagOf strip) (bodyBytes strip ps))
+    stored_as (ap (λ (ps : List Post). field_bytes (tag_of strip) (body_bytes strip ps))
     (lent-posts b.args.m b.args.body.now (λ i. omega (arith, c.before.before.before.before.before.before.before.before.before.before.before.before.before.before.before.before.shared-slice-known.given i)) b.requires.0 _ _ _ _ _ r.ensures (omega (arith, b.requires.0.fit.few)) (omega (arith, b.requires.0.fit.few))))
     c.before.before.put-body-field.ensures
 
-pub turn-body-spec : {M : Type 1} → statement M
-turn-body-spec =
+pub turn_body_spec : {M : Type 1} → statement M
+turn_body_spec =
     tie.close
     (tie.spec
     slice-aggregate-read-body

@@ -10,7 +10,7 @@ use Rattle.list.proofs.Faults.{gives-refused}
 use Rattle.change.specs.Edits.{Clear}
 use Rattle.change.specs.Bytes.{in_range}
 use Rattle.change.proofs.Pieces.{judged-lists}
-use Rattle.edit.proofs.Entries.{edited-range, edited-sound, edited-fault}
+use Rattle.edit.proofs.Entries.{edited_range, edited-sound, edited-fault}
 use Rattle.edit.proofs.edit.clear.Statement.{statement}
 use Rattle.edit.proofs.edit.clear.Tie as tie
 
@@ -21,7 +21,7 @@ returns : tie.Need-returns
 returns c =
     let a = c.before.before.before.before.args in
     let f = sym c.before.docid-in.ensures ∙ not-true c.before.docid-in.result c.if1.true in
-    gives-refused a.out.now (edited-range (Clear a.term a.docid) a.s.now (length a.out.now) f)
+    gives-refused a.out.now (edited_range (Clear a.term a.docid) a.s.now (length a.out.now) f)
 
 check-requires : tie.Need-check-requires
 check-requires c κs = search rules

@@ -7,7 +7,7 @@ use Rattle.shelf.specs.Check.{checked}
 use Rattle.list.proofs.Faults.{gives-refused}
 use Rattle.change.proofs.Pieces.{judged-lists}
 use Rattle.change.proofs.News.{held-runs}
-use Rattle.edit.proofs.Sittings.{Sits, sits, without-room, clear-chain, cleared-fit, runs-placeable, clear-refuses, clear-gives}
+use Rattle.edit.proofs.Sittings.{Sits, sits, without-room, clear-chain, cleared-fit, runs_placeable, clear_refuses, clear-gives}
 use Rattle.edit.proofs.edit.clear_in.Statement.{statement}
 use Rattle.edit.proofs.edit.clear_in.Tie as tie
 
@@ -43,7 +43,7 @@ returns c =
     let f = c.before.before.before.before.before.before.before.before.before.before.before.before.before.before.before in
     let a = f.before.before.before.before.before.args in
     λ ls e. gives-refused a.out.now
-    (clear-refuses a.s.now ls (bytes f) e a.term a.docid f.find-seat.result (f.find-seat.ensures ls e) c.before.before.before.before.before.before.before.before.before.before.before.before.held.result c.before.before.before.before.before.without.result _ _ _ _ (held-runs c.before.before.before.before.before.before.before.before.before.before.before.before.held.ensures) (clear-chain c.before.before.before.before.before.before.before.before.before.before.before.before.held.ensures c.before.before.before.before.before.without.ensures) (length a.out.now) c.if1.true)
+    (clear_refuses a.s.now ls (bytes f) e a.term a.docid f.find-seat.result (f.find-seat.ensures ls e) c.before.before.before.before.before.before.before.before.before.before.before.before.held.result c.before.before.before.before.before.without.result _ _ _ _ (held-runs c.before.before.before.before.before.before.before.before.before.before.before.before.held.ensures) (clear-chain c.before.before.before.before.before.before.before.before.before.before.before.before.held.ensures c.before.before.before.before.before.without.ensures) (length a.out.now) c.if1.true)
 
 sub-place : tie.Need-overflow-sub-place
 sub-place c = search rules
@@ -67,7 +67,7 @@ place-requires : tie.Need-place-requires
 place-requires c κs =
     let b = c.before.before.before.before.before.before.before.before.before.before.before.before.before.before.before.before.before.before.before.before.before.before.before.before.before in
     let z = sat c.before.before.before.before.before.before.before.before.before.before.before.before.before.before.before.before.before.before.before.before in
-    runs-placeable b.args.s.now c.before.before.before.before.before.before.before.before.before.before.before.before.before.before.before.before.before.before.before.before.find-seat.result _ _ c.before.before.before.before.before.before.before.before.before.before.without.result _ z (clear-chain c.before.before.before.before.before.before.before.before.before.before.before.before.before.before.before.before.before.held.ensures c.before.before.before.before.before.before.before.before.before.before.without.ensures)
+    runs_placeable b.args.s.now c.before.before.before.before.before.before.before.before.before.before.before.before.before.before.before.before.before.before.before.before.find-seat.result _ _ c.before.before.before.before.before.before.before.before.before.before.without.result _ z (clear-chain c.before.before.before.before.before.before.before.before.before.before.before.before.before.before.before.before.before.held.ensures c.before.before.before.before.before.before.before.before.before.before.without.ensures)
     (cleared-fit b.args.s.now c.before.before.before.before.before.before.before.before.before.before.before.before.before.before.before.before.before.before.before.before.find-seat.result z b.args.docid)
 
 same-length-3 : tie.Need-same-length-3
@@ -86,8 +86,8 @@ returns-2 c =
     λ ls e. clear-gives a.s.now ls (bytes f) e a.term a.docid f.find-seat.result (f.find-seat.ensures ls e) c.before.before.before.before.before.before.before.before.before.before.before.before.before.before.before.before.before.before.before.before.held.result c.before.before.before.before.before.before.before.before.before.before.before.before.before.without.result _ _ _ _ (held-runs c.before.before.before.before.before.before.before.before.before.before.before.before.before.before.before.before.before.before.before.before.held.ensures) (clear-chain c.before.before.before.before.before.before.before.before.before.before.before.before.before.before.before.before.before.before.before.before.held.ensures c.before.before.before.before.before.before.before.before.before.before.before.before.before.without.ensures)
     (length a.out.now) _ _ _ c.before.before.before.before.before.before.before.before.if1.false (c.before.before.place.ensures ls e)
 
-pub clear-in-spec : {M : Type 1} → statement M
-clear-in-spec =
+pub clear_in_spec : {M : Type 1} → statement M
+clear_in_spec =
     tie.close
     (tie.spec
     find-seat-requires

@@ -21,5 +21,5 @@ same_length c = search rules
 returns : tie.Need-returns
 returns c = c.before.before.before.before.Clear-in.ensures
 
-pub clear-sound-spec : {M : Type 1} → statement M
-clear-sound-spec = tie.close (tie.spec slice-aggregate-clear-in slice-aggregate-clear-in-2 clear-in-requires same_length returns)
+pub clear_sound_spec : {M : Type 1} → statement M
+clear_sound_spec = tie.close (tie.spec slice-aggregate-clear-in slice-aggregate-clear-in-2 clear-in-requires same_length returns)

@@ -9,5 +9,5 @@ returns c = rw (lt-ltb 0 _ c.if1.true)
 returns-2 : tie.Need-returns-2
 returns-2 c = rw (le-ltb 0 _ c.if1.false)
 
-pub docid-in-spec : {M : Type 1} → statement M
-docid-in-spec = tie.close (tie.spec returns returns-2)
+pub docid_in_spec : {M : Type 1} → statement M
+docid_in_spec = tie.close (tie.spec returns returns-2)

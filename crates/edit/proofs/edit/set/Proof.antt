@@ -11,7 +11,7 @@ use Rattle.list.proofs.Faults.{gives-refused}
 use Rattle.change.specs.Edits.{Set}
 use Rattle.change.specs.Bytes.{in_range}
 use Rattle.change.proofs.Pieces.{judged-lists}
-use Rattle.edit.proofs.Entries.{edited-range, edited-sound, edited-fault, set-docid-out, set-score-out, set-in-range}
+use Rattle.edit.proofs.Entries.{edited_range, edited-sound, edited-fault, set-docid-out, set-score-out, set_in_range}
 use Rattle.edit.proofs.edit.set.Statement.{statement}
 use Rattle.edit.proofs.edit.set.Tie as tie
 
@@ -22,12 +22,12 @@ returns : tie.Need-returns
 returns c =
     let a = c.before.before.before.before.args in
     let f = sym c.before.docid-in.ensures ∙ not-true c.before.docid-in.result c.if1.true in
-    gives-refused a.out.now (edited-range (Set a.term a.docid a.score) a.s.now (length a.out.now) (set-docid-out a.term a.docid a.score f))
+    gives-refused a.out.now (edited_range (Set a.term a.docid a.score) a.s.now (length a.out.now) (set-docid-out a.term a.docid a.score f))
 
 returns-2 : tie.Need-returns-2
 returns-2 c =
     let a = c.before.before.before.before.before.args in
-    gives-refused a.out.now (edited-range (Set a.term a.docid a.score) a.s.now (length a.out.now) (set-score-out a.term a.docid a.score c.if2.true))
+    gives-refused a.out.now (edited_range (Set a.term a.docid a.score) a.s.now (length a.out.now) (set-score-out a.term a.docid a.score c.if2.true))
 
 check-requires : tie.Need-check-requires
 check-requires c κs = search rules
@@ -40,7 +40,7 @@ ranged : (c : tie.Else2) → in_range (Set c.before.before.before.before.before.
 ranged c =
     let b = c.before.before.before.before.before in
     let f = sym c.before.before.docid-in.ensures ∙ not-false c.before.before.docid-in.result c.before.if1.false in
-    set-in-range b.args.term b.args.docid b.args.score f c.if2.false (omega arith)
+    set_in_range b.args.term b.args.docid b.args.score f c.if2.false (omega arith)
 
 set-sound-requires : tie.Need-set-sound-requires
 set-sound-requires c κs =

@@ -5,7 +5,7 @@ use lib.ListN.{length}
 use Rattle.model.specs.Runs.{Bytes}
 use Rattle.shelf.specs.Check.{checked}
 use Rattle.change.proofs.Pieces.{judged-lists}
-use Rattle.edit.proofs.Sittings.{Sits, sits, without-room, set-insertable, set-chain, set-fits, runs-placeable, set_gives}
+use Rattle.edit.proofs.Sittings.{Sits, sits, without-room, set_insertable, set-chain, set-fits, runs_placeable, set_gives}
 use Rattle.edit.proofs.edit.set_in.Statement.{statement}
 use Rattle.edit.proofs.edit.set_in.Tie as tie
 
@@ -31,7 +31,7 @@ without-requires : tie.Need-without-requires
 without-requires c κs = without-room c.before.before.before.before.before.before.held.ensures
 
 insert-requires : tie.Need-insert-requires
-insert-requires c κs = set-insertable (sat c.before.before.before.before.before.before.before.before.before.before.before.before.before.before.before.before) c.before.before.before.before.before.before.before.before.before.before.before.before.before.before.before.before.before.before.before.before.before.requires.2 c.before.before.before.before.before.before.before.before.before.before.before.before.before.held.ensures c.before.before.before.before.before.before.without.ensures
+insert-requires c κs = set_insertable (sat c.before.before.before.before.before.before.before.before.before.before.before.before.before.before.before.before) c.before.before.before.before.before.before.before.before.before.before.before.before.before.before.before.before.before.before.before.before.before.requires.2 c.before.before.before.before.before.before.before.before.before.before.before.before.before.held.ensures c.before.before.before.before.before.before.without.ensures
 
 sub-place : tie.Need-overflow-sub-place
 sub-place c = search rules
@@ -55,7 +55,7 @@ place-requires : tie.Need-place-requires
 place-requires c κs =
     let b = c.before.before.before.before.before.before.before.before.before.before.before.before.before.before.before.before.before.before.before.before.before.before.before.before.before.before.before.before.before.before.before in
     let z = sat c.before.before.before.before.before.before.before.before.before.before.before.before.before.before.before.before.before.before.before.before.before.before.before.before.before.before in
-    runs-placeable b.args.s.now c.before.before.before.before.before.before.before.before.before.before.before.before.before.before.before.before.before.before.before.before.before.before.before.before.before.before.find-seat.result _ _ c.before.before.before.before.before.before.before.before.before.insert.result _ z (set-chain (sat c.before.before.before.before.before.before.before.before.before.before.before.before.before.before.before.before.before.before.before.before.before.before.before.before.before.before) c.before.before.before.before.before.before.before.before.before.before.before.before.before.before.before.before.before.before.before.before.before.before.before.held.ensures c.before.before.before.before.before.before.before.before.before.before.before.before.before.before.before.before.without.ensures c.before.before.before.before.before.before.before.before.before.insert.ensures)
+    runs_placeable b.args.s.now c.before.before.before.before.before.before.before.before.before.before.before.before.before.before.before.before.before.before.before.before.before.before.before.before.before.before.find-seat.result _ _ c.before.before.before.before.before.before.before.before.before.insert.result _ z (set-chain (sat c.before.before.before.before.before.before.before.before.before.before.before.before.before.before.before.before.before.before.before.before.before.before.before.before.before.before) c.before.before.before.before.before.before.before.before.before.before.before.before.before.before.before.before.before.before.before.before.before.before.before.held.ensures c.before.before.before.before.before.before.before.before.before.before.before.before.before.before.before.before.without.ensures c.before.before.before.before.before.before.before.before.before.insert.ensures)
     (λ h. set-fits b.args.s.now c.before.before.before.before.before.before.before.before.before.before.before.before.before.before.before.before.before.before.before.before.before.before.before.before.before.before.find-seat.result z b.args.docid b.args.term b.args.score b.requires.0)
 
 same_length : tie.Need-same-length
@@ -73,8 +73,8 @@ returns c =
     let a = f.before.before.before.before.before.args in
     λ ls e. set_gives a.s.now ls (bytes f) e a.term a.docid f.find-seat.result (f.find-seat.ensures ls e) a.score c.before.before.before.before.before.before.before.before.before.before.before.before.insert.result (length a.out.now) _ _ _ _ _ (set-chain (sat c.before.before.before.before.before.before.before.before.before.before.before.before.before.before.before.before.before.before.before.before.before.before.before.before.before.before.before.before.before) c.before.before.before.before.before.before.before.before.before.before.before.before.before.before.before.before.before.before.before.before.before.before.before.before.before.before.held.ensures c.before.before.before.before.before.before.before.before.before.before.before.before.before.before.before.before.before.before.before.without.ensures c.before.before.before.before.before.before.before.before.before.before.before.before.insert.ensures) (c.before.before.place.ensures ls e)
 
-pub set-in-spec : {M : Type 1} → statement M
-set-in-spec =
+pub set_in_spec : {M : Type 1} → statement M
+set_in_spec =
     tie.close
     (tie.spec
     find-seat-requires

@@ -21,5 +21,5 @@ same_length c = search rules
 returns : tie.Need-returns
 returns c = c.before.before.before.before.set-in.ensures
 
-pub set-sound-spec : {M : Type 1} → statement M
-set-sound-spec = tie.close (tie.spec slice-aggregate-set-in slice-aggregate-set-in-2 set-in-requires same_length returns)
+pub set_sound_spec : {M : Type 1} → statement M
+set_sound_spec = tie.close (tie.spec slice-aggregate-set-in slice-aggregate-set-in-2 set-in-requires same_length returns)

@@ -10,7 +10,7 @@ use Rattle.list.proofs.Faults.{gives-refused}
 use Rattle.change.specs.Edits.{Withdraw}
 use Rattle.change.specs.Bytes.{in_range}
 use Rattle.change.proofs.Pieces.{judged-lists}
-use Rattle.edit.proofs.Entries.{edited-range, edited-sound, edited-fault}
+use Rattle.edit.proofs.Entries.{edited_range, edited-sound, edited-fault}
 use Rattle.edit.proofs.edit.withdraw.Statement.{statement}
 use Rattle.edit.proofs.edit.withdraw.Tie as tie
 
@@ -21,7 +21,7 @@ returns : tie.Need-returns
 returns c =
     let a = c.before.before.before.before.args in
     let f = sym c.before.docid-in.ensures ∙ not-true c.before.docid-in.result c.if1.true in
-    gives-refused a.out.now (edited-range (Withdraw a.docid) a.s.now (length a.out.now) f)
+    gives-refused a.out.now (edited_range (Withdraw a.docid) a.s.now (length a.out.now) f)
 
 check-requires : tie.Need-check-requires
 check-requires c κs = search rules
@@ -58,5 +58,5 @@ returns-3 c =
     gives-refused a.out.now
     (edited-fault (Withdraw a.docid) a.s.now (length a.out.now) (ranged c.before.before.before.before) c.before.n.given.0.0 c.before.n.given.0.1.0 (sym c.before.before.before.check.ensures ∙ ap paper e))
 
-pub withdraw-spec : {M : Type 1} → statement M
-withdraw-spec = tie.close (tie.spec docid-in-requires returns check-requires enum_told withdraw-sound-requires enum-known-n same_length returns-2 returns-3)
+pub withdraw_spec : {M : Type 1} → statement M
+withdraw_spec = tie.close (tie.spec docid-in-requires returns check-requires enum_told withdraw-sound-requires enum-known-n same_length returns-2 returns-3)

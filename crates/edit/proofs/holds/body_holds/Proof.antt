@@ -6,11 +6,11 @@ use lib.ListN.{length, take, drop}
 use borrow.Author.Rules.{rules}
 use Rattle.model.specs.Post.{docs}
 use Rattle.model.specs.Runs.{has}
-use Rattle.block.specs.Body.{bodyRun}
-use Rattle.block.specs.Cursor.{stepAt, run_at}
+use Rattle.block.specs.Body.{body_run}
+use Rattle.block.specs.Cursor.{step_at, run_at}
 use Rattle.block.specs.declared.cursor.Step.TheVariants.{Posting, End, Bad}
-use Rattle.block.proofs.Bodies.{front_of, back-of}
-use Rattle.block.proofs.Steps.{step-onward, run_end, run-bad}
+use Rattle.block.proofs.Bodies.{front_of, back_of}
+use Rattle.block.proofs.Steps.{step-onward, run_end, run_bad}
 use Rattle.edit.proofs.Seekings.{Seeking, seek-none, body-all, body-start, body-on, body-here}
 use Rattle.edit.proofs.holds.body_holds.Statement.{statement}
 use Rattle.edit.proofs.holds.body_holds.Tie as tie
@@ -60,17 +60,17 @@ loop-holds c =
     let b = c.before.before.before.before.before in
     let s = b.args.s.now in
     let e = c.before.before.before.edge in
-    body-start b.args.d b.args.m s (front c) (back c) c.new.result (front_of b.args.m s e.result e.ensures.0) (back-of b.args.m s e.result e.ensures.0) c.new.ensures b.requires
+    body-start b.args.d b.args.m s (front c) (back c) c.new.result (front_of b.args.m s e.result e.ensures.0) (back_of b.args.m s e.result e.ensures.0) c.new.ensures b.requires
 
 -- all postings are the body's
 all : (c : tie.After-new invariant-loop decreases-loop) →
     let a = c.before.before.before.before.before.args in
-    has a.d (docs (run_at (front c) (back c) c.new.result)) ≡ has a.d (docs (bodyRun a.m a.s.now))
+    has a.d (docs (run_at (front c) (back c) c.new.result)) ≡ has a.d (docs (body_run a.m a.s.now))
 all c =
     let a = c.before.before.before.before.before.args in
     let s = a.s.now in
     let e = c.before.before.before.edge in
-    body-all a.d a.m s (front c) (back c) c.new.result (front_of a.m s e.result e.ensures.0) (back-of a.m s e.result e.ensures.0) c.new.ensures
+    body-all a.d a.m s (front c) (back c) c.new.result (front_of a.m s e.result e.ensures.0) (back_of a.m s e.result e.ensures.0) c.new.ensures
 
 next-requires : tie.Need-next-requires invariant-loop decreases-loop
 next-requires c κs = search rules
@@ -81,7 +81,7 @@ enum-known-doc c = search rules
 -- the step that found a posting
 stepped : (c : tie.After-known-told invariant-loop decreases-loop) →
     let n = c.before.before.before.before.before in
-    stepAt (front n) (back n) c.before.before.before.before.loop.c ≡ Posting c.before.doc.given.0.0 c.before.doc.given.0.1.0 c.before.doc.given.0.1.1.0
+    step_at (front n) (back n) c.before.before.before.before.loop.c ≡ Posting c.before.doc.given.0.0 c.before.doc.given.0.1.0 c.before.doc.given.0.1.1.0
 stepped c = cc
 
 returns : tie.Need-returns invariant-loop decreases-loop
@@ -114,7 +114,7 @@ returns-2 : tie.Need-returns-2 invariant-loop decreases-loop
 returns-2 c =
     let n = c.before.before.before.before in
     let l = c.before.before.before.loop in
-    let f : stepAt (front n) (back n) l.c ≡ End = cc in
+    let f : step_at (front n) (back n) l.c ≡ End = cc in
     sym (seek-none (run_end (front n) (back n) l.c f) l.invariant) ∙ all n
 
 enum-told-2 : tie.Need-enum-told-2 invariant-loop decreases-loop
@@ -124,11 +124,11 @@ returns-3 : tie.Need-returns-3 invariant-loop decreases-loop
 returns-3 c =
     let n = c.before.before.before.before in
     let l = c.before.before.before.loop in
-    let f : stepAt (front n) (back n) l.c ≡ Bad = cc in
-    sym (seek-none (run-bad (front n) (back n) l.c f) l.invariant) ∙ all n
+    let f : step_at (front n) (back n) l.c ≡ Bad = cc in
+    sym (seek-none (run_bad (front n) (back n) l.c f) l.invariant) ∙ all n
 
-pub body-holds-spec : {M : Type 1} → statement M
-body-holds-spec =
+pub body_holds_spec : {M : Type 1} → statement M
+body_holds_spec =
     tie.close
     (tie.spec
     invariant-loop

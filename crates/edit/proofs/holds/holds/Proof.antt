@@ -2,15 +2,15 @@
 use native.Mathlib.Omega.{arith}
 use mathlib.Core.Path.{◌≡◌, sym, ap, ◌∙◌}
 use borrow.Author.Rules.{rules}
-use Rattle.shelf.specs.Walk.{postsOf}
-use Rattle.shelf.specs.Blocks.{blocksLeft, Steps}
+use Rattle.shelf.specs.Walk.{posts_of}
+use Rattle.shelf.specs.Blocks.{blocks_left, Steps}
 use Rattle.shelf.specs.declared.blocks.BlockStep.TheVariants.{Block, Last}
 use Rattle.edit.proofs.Seekings.{Looking, seek-none, look-start, look-rise, look-on, look-here, look-all}
 use Rattle.edit.proofs.holds.holds.Statement.{statement}
 use Rattle.edit.proofs.holds.holds.Tie as tie
 
 abbrev invariant-loop : tie.invariant-loop
-invariant-loop s d r₀ r = Looking s d (blocksLeft s r₀) r
+invariant-loop s d r₀ r = Looking s d (blocks_left s r₀) r
 
 abbrev decreases-loop : tie.decreases-loop
 decreases-loop s d r₀ r = r.left
@@ -54,7 +54,7 @@ body-holds-requires c κs =
     let l = k.before.before.before.before.loop in
     let g = k.before.m.given in
     let s = b.before.before.args.s.now in
-    look-rise s b.before.before.args.d (blocksLeft s b.new.result) l.r f.0 g.0.1.0 g.0.1.1.0 g.0.1.1.1.0 g.0.0 f.1 f.2 l.invariant
+    look-rise s b.before.before.args.d (blocks_left s b.new.result) l.r f.0 g.0.1.0 g.0.1.1.0 g.0.1.1.1.0 g.0.0 f.1 f.2 l.invariant
 
 returns : tie.Need-returns invariant-loop decreases-loop
 returns c =
@@ -66,7 +66,7 @@ returns c =
     let a = b.before.before.args in
     let s = a.s.now in
     c.body-holds.ensures
-    ∙ sym (look-here s a.d (blocksLeft s b.new.result) l.r f.0 g.0.1.0 g.0.1.1.0 g.0.1.1.1.0 g.0.0 f.1 f.2 l.invariant c.before.before.if1.true)
+    ∙ sym (look-here s a.d (blocks_left s b.new.result) l.r f.0 g.0.1.0 g.0.1.1.0 g.0.1.1.1.0 g.0.0 f.1 f.2 l.invariant c.before.before.if1.true)
     ∙ look-all s a.d a.list b.new.result b.new.ensures
 
 loop-less : tie.Need-loop-smaller invariant-loop decreases-loop
@@ -80,7 +80,7 @@ loop-again c =
     let l = k.before.before.before.before.loop in
     let g = k.before.m.given in
     let s = b.before.before.args.s.now in
-    look-on s b.before.before.args.d (blocksLeft s b.new.result) l.r f.0 g.0.1.0 g.0.1.1.0 g.0.1.1.1.0 g.0.0 f.1 f.2 l.invariant c.if1.false
+    look-on s b.before.before.args.d (blocks_left s b.new.result) l.r f.0 g.0.1.0 g.0.1.1.0 g.0.1.1.1.0 g.0.0 f.1 f.2 l.invariant c.if1.false
 
 enum_told : tie.Need-enum-told invariant-loop decreases-loop
 enum_told c = search rules
@@ -92,10 +92,10 @@ returns-2 c =
     let l = c.before.before.before.loop in
     let e : c.before.before.next.result ≡ Last = cc in
     let d : Steps a.s.now l.r Last = rw e at c.before.before.next.ensures in
-    sym (seek-none (ap postsOf d.0) l.invariant.seeks) ∙ look-all a.s.now a.d a.list n.result n.ensures
+    sym (seek-none (ap posts_of d.0) l.invariant.seeks) ∙ look-all a.s.now a.d a.list n.result n.ensures
 
-pub holds-spec : {M : Type 1} → statement M
-holds-spec =
+pub holds_spec : {M : Type 1} → statement M
+holds_spec =
     tie.close
     (tie.spec
     invariant-loop

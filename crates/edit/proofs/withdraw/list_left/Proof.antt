@@ -6,7 +6,7 @@ use mathlib.Core.Path.{sym, ap, ◌∙◌}
 use mathlib.Core.List.{List}
 use Prim.Native.Nat.{ℕ}
 use lib.ListN.{length}
-use Rattle.edit.specs.Left.{layoutAt}
+use Rattle.edit.specs.Left.{layout_at}
 use Rattle.edit.proofs.Lefts.{left-sought, left-held, left-runs, left-may, left-new, left-none, left-some}
 use Rattle.edit.proofs.withdraw.list_left.Statement.{statement}
 use Rattle.edit.proofs.withdraw.list_left.Tie as tie
@@ -74,11 +74,11 @@ returns-2 c =
     let i = f.before.before.before in
     let b = f.before.before.before.before.before.before.before.before in
     let t = b.args.list.term in
-    let lay = layoutAt b.args.s.now b.args.list in
+    let lay = layout_at b.args.s.now b.args.list in
     left-some b.args.s.now b.args.list b.args.d _ (sym i.before.holds.ensures ∙ not-false _ i.if1.false) (c.new-len.ensures lay t ∙ ap (λ (x : List ℕ). length x) (left-new b.requires f.fill.ensures w.without.ensures lay t))
 
-pub list-left-spec : {M : Type 1} → statement M
-list-left-spec =
+pub list_left_spec : {M : Type 1} → statement M
+list_left_spec =
     tie.close
     (tie.spec
     holds-requires

@@ -11,7 +11,7 @@ use Rattle.shelf.specs.Check.{checked}
 use Rattle.shelf.specs.Answers.{list_of}
 use Rattle.shelf.specs.declared.walk.ListRead.TheVariants.{Is, Not}
 use Rattle.change.specs.Seat.{Wide}
-use Rattle.edit.specs.Left.{leftBytes}
+use Rattle.edit.specs.Left.{left_bytes}
 use Rattle.change.proofs.Seats.{list-onward}
 use Rattle.change.proofs.Pieces.{checked-sound, judged-lists}
 use Rattle.edit.proofs.Lefts.{list-starts, left-small, Adding, add_start, add-end, add-never, add_goes, add-on}
@@ -46,7 +46,7 @@ onward : (c : tie.After-known-told invariant-loop decreases-loop) →
 onward c = list-onward c.before.before.before.before.before.loop.floor c.before.before.before.before.before.loop.at c.before.before.before.before.before.before.before.before.before.args.s.now c.before.p.given.0.0 (found c)
 
 -- its bytes have a bound
-small : (c : tie.After-known-told invariant-loop decreases-loop) → length (leftBytes c.before.before.before.before.before.before.before.before.before.args.s.now c.before.p.given.0.0 c.before.before.before.before.before.before.before.before.before.args.d) ≤ 45769 * (c.before.p.given.0.0.next - c.before.before.before.before.before.loop.at)
+small : (c : tie.After-known-told invariant-loop decreases-loop) → length (left_bytes c.before.before.before.before.before.before.before.before.before.args.s.now c.before.p.given.0.0 c.before.before.before.before.before.before.before.before.before.args.d) ≤ 45769 * (c.before.p.given.0.0.next - c.before.before.before.before.before.loop.at)
 small c =
     let q = list-starts c.before.before.before.before.before.loop.floor c.before.before.before.before.before.loop.at c.before.before.before.before.before.before.before.before.before.args.s.now c.before.p.given.0.0 (found c) in
     omega (arith, left-small c.before.before.before.before.before.before.before.before.before.args.s.now c.before.p.given.0.0 c.before.before.before.before.before.before.before.before.before.args.d (omega (arith, (onward c).0)) (onward c).1, (onward c).0)
@@ -115,8 +115,8 @@ returns-2 c =
     let b = c.before.before.before.before.before in
     λ ls e. add-end b.args.s.now b.args.d ls l.floor l.at l.bytes l.held (l.invariant.3 ls e) c.loop-test.false
 
-pub measure-spec : {M : Type 1} → statement M
-measure-spec =
+pub measure_spec : {M : Type 1} → statement M
+measure_spec =
     tie.close
     (tie.spec
     invariant-loop

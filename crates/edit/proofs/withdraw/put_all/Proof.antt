@@ -14,7 +14,7 @@ use Rattle.shelf.specs.declared.walk.ListRead.TheVariants.{Is, Not}
 use Rattle.change.specs.Seat.{Wide}
 use Rattle.change.proofs.Seats.{list-onward}
 use Rattle.change.proofs.Pieces.{judged-lists}
-use Rattle.edit.proofs.Lefts.{Putting, put-start, put-end, put-never, put-goes, put-room, put_on}
+use Rattle.edit.proofs.Lefts.{Putting, put_start, put_end, put_never, put_goes, put_room, put_on}
 use Rattle.edit.proofs.withdraw.put_all.Statement.{statement}
 use Rattle.edit.proofs.withdraw.put_all.Tie as tie
 
@@ -28,7 +28,7 @@ decreases-loop s d docs₀ scores₀ out₀ at₀ floor₀ j₀ docs scores out 
 loop-holds : tie.Need-loop-init invariant-loop decreases-loop
 loop-holds c =
     let b = c.before.before.before.before in
-    (omega arith, b.requires.1, (λ ls e. put-start b.args.s.now b.args.d ls b.args.out.now (λ i. omega (arith, c.before.before.before.shared-slice-known.given i)) e), refl)
+    (omega arith, b.requires.1, (λ ls e. put_start b.args.s.now b.args.d ls b.args.out.now (λ i. omega (arith, c.before.before.before.shared-slice-known.given i)) e), refl)
 
 list-at-requires : tie.Need-list-at-requires invariant-loop decreases-loop
 list-at-requires c κs = search rules
@@ -54,8 +54,8 @@ put-left-requires c κs =
     let i = l.invariant.2 j.0 j.1 in
     let p = k.before.p.given.0.0 in
     let t = c.before.before.before.before.before.before.before.loop-test.true in (
-      (put-goes b.args.s.now b.args.d j.0 b.args.out.now l.out l.floor l.at l.j i p t (found k)).ready l.docs l.scores l.invariant.1,
-      put-room b.args.s.now b.args.d j.0 b.args.out.now l.out l.floor l.at l.j i p t (found k) (b.requires.2 j.0 j.1),
+      (put_goes b.args.s.now b.args.d j.0 b.args.out.now l.out l.floor l.at l.j i p t (found k)).ready l.docs l.scores l.invariant.1,
+      put_room b.args.s.now b.args.d j.0 b.args.out.now l.out l.floor l.at l.j i p t (found k) (b.requires.2 j.0 j.1),
     )
 
 cast-floor : tie.Need-overflow-cast-floor invariant-loop decreases-loop
@@ -96,7 +96,7 @@ returns c =
     let l = c.before.before.before.before.before.loop in
     let b = c.before.before.before.before.before.before.before.before.before.before in
     let f : list_of (list l.floor l.at (drop l.at b.args.s.now)) ≡ Not c.before.n.given.0.0 c.before.n.given.0.1.0 = cc in
-    λ ls e. put-never b.args.s.now b.args.d ls b.args.out.now l.out l.floor l.at l.j (l.invariant.2 ls e) c.before.before.before.before.loop-test.true c.before.n.given.0.0 c.before.n.given.0.1.0 f
+    λ ls e. put_never b.args.s.now b.args.d ls b.args.out.now l.out l.floor l.at l.j (l.invariant.2 ls e) c.before.before.before.before.loop-test.true c.before.n.given.0.0 c.before.n.given.0.1.0 f
 
 same-length-4 : tie.Need-same-length-4 invariant-loop decreases-loop
 same-length-4 c = search rules
@@ -111,10 +111,10 @@ returns-2 : tie.Need-returns-2 invariant-loop decreases-loop
 returns-2 c =
     let l = c.before.loop in
     let b = c.before.before.before.before.before.before in
-    λ ls e. put-end b.args.s.now b.args.d ls b.args.out.now l.out l.floor l.at l.j (l.invariant.2 ls e) c.loop-test.false
+    λ ls e. put_end b.args.s.now b.args.d ls b.args.out.now l.out l.floor l.at l.j (l.invariant.2 ls e) c.loop-test.false
 
-pub put-all-spec : {M : Type 1} → statement M
-put-all-spec =
+pub put_all_spec : {M : Type 1} → statement M
+put_all_spec =
     tie.close
     (tie.spec
     invariant-loop

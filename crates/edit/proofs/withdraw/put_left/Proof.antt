@@ -6,9 +6,9 @@ use mathlib.Core.Path.{sym, ap, ◌∙◌}
 use mathlib.Core.List.{List}
 use Prim.Native.Nat.{ℕ}
 use lib.ListN.{length}
-use Rattle.model.proofs.Storing.{stored-as}
+use Rattle.model.proofs.Storing.{stored_as}
 use Rattle.edit.proofs.Sittings.{count-some}
-use Rattle.edit.proofs.Lefts.{left-sought, left-held, left-runs, left-may, left-as-was, left-anew, kept-room}
+use Rattle.edit.proofs.Lefts.{left-sought, left-held, left-runs, left-may, left_as_was, left-anew, kept-room}
 use Rattle.edit.proofs.withdraw.put_left.Statement.{statement}
 use Rattle.edit.proofs.withdraw.put_left.Tie as tie
 
@@ -29,7 +29,7 @@ returns : tie.Need-returns
 returns c =
     let b = c.before.before.before.before.before.before.before.before.before.before in
     let h = sym c.before.before.before.before.before.holds.ensures ∙ not-true _ c.before.before.before.before.if1.true in
-    stored-as (sym (left-as-was b.args.s.now b.args.list b.args.d h)) c.before.before.copy.ensures
+    stored_as (sym (left_as_was b.args.s.now b.args.list b.args.d h)) c.before.before.copy.ensures
 
 fill-requires : tie.Need-fill-requires
 fill-requires c κs = c.before.before.before.before.before.before.before.before.requires.0.fills
@@ -100,10 +100,10 @@ returns-2 c =
     let i = f.before.before.before in
     let b = f.before.before.before.before.before.before.before.before.before in
     let h = sym i.before.holds.ensures ∙ not-false _ i.if1.false in
-    stored-as (left-anew b.requires.0 f.fill.ensures w.without.ensures o.strip-of.result o.strip-of.ensures h) c.before.before.put-new.ensures
+    stored_as (left-anew b.requires.0 f.fill.ensures w.without.ensures o.strip-of.result o.strip-of.ensures h) c.before.before.put-new.ensures
 
-pub put-left-spec : {M : Type 1} → statement M
-put-left-spec =
+pub put_left_spec : {M : Type 1} → statement M
+put_left_spec =
     tie.close
     (tie.spec
     holds-requires

@@ -6,8 +6,8 @@ use borrow.Author.Tests.{not-true, not-false}
 use lib.ListN.{length}
 use Rattle.list.proofs.Faults.{gives-refused, gives-done}
 use Rattle.change.specs.Edits.{every}
-use Rattle.change.specs.Bytes.{pieces, joined, clearPieces}
-use Rattle.edit.proofs.Lefts.{withdraw-none, withdraw-some, fit-large, fit-tight, fit-done}
+use Rattle.change.specs.Bytes.{pieces, joined, clear_pieces}
+use Rattle.edit.proofs.Lefts.{withdraw-none, withdraw-some, fit_large, fit_tight, fit-done}
 use Rattle.edit.proofs.withdraw.withdraw_in.Statement.{statement}
 use Rattle.edit.proofs.withdraw.withdraw_in.Tie as tie
 
@@ -38,7 +38,7 @@ returns-2 c =
     let b = c.before.before.before.before.before.before.before.before.before.before.before.before.before.before.before in
     λ ls e.
     let m = c.before.before.before.before.before.before.before.before.measure.ensures ls e in
-    gives-refused b.args.out.now (withdraw-some b.args.s.now ls (λ i. omega (arith, c.before.before.before.before.before.before.before.before.before.before.before.before.before.before.shared-slice-known.given i)) e b.args.docid (length b.args.out.now) (sym m.held ∙ not-false _ c.before.before.if1.false) ∙ fit-large (joined (clearPieces every b.args.docid (pieces b.args.s.now ls))) (length b.args.out.now) (omega (arith, m.bytes, c.if2.true)))
+    gives-refused b.args.out.now (withdraw-some b.args.s.now ls (λ i. omega (arith, c.before.before.before.before.before.before.before.before.before.before.before.before.before.before.shared-slice-known.given i)) e b.args.docid (length b.args.out.now) (sym m.held ∙ not-false _ c.before.before.if1.false) ∙ fit_large (joined (clear_pieces every b.args.docid (pieces b.args.s.now ls))) (length b.args.out.now) (omega (arith, m.bytes, c.if2.true)))
 
 same-length-5 : tie.Need-same-length-5
 same-length-5 c = search rules
@@ -51,7 +51,7 @@ returns-3 c =
     let b = c.before.before.before.before.before.before.before.before.before.before.before.before.before.before.before.before.before in
     λ ls e.
     let m = c.before.before.before.before.before.before.before.before.before.before.measure.ensures ls e in
-    gives-refused b.args.out.now (withdraw-some b.args.s.now ls (λ i. omega (arith, c.before.before.before.before.before.before.before.before.before.before.before.before.before.before.before.before.shared-slice-known.given i)) e b.args.docid (length b.args.out.now) (sym m.held ∙ not-false _ c.before.before.before.before.if1.false) ∙ fit-tight (joined (clearPieces every b.args.docid (pieces b.args.s.now ls))) (length b.args.out.now) (omega (arith, m.bytes, c.before.before.if2.false)) (omega (arith, m.bytes, c.if3.true)))
+    gives-refused b.args.out.now (withdraw-some b.args.s.now ls (λ i. omega (arith, c.before.before.before.before.before.before.before.before.before.before.before.before.before.before.before.before.shared-slice-known.given i)) e b.args.docid (length b.args.out.now) (sym m.held ∙ not-false _ c.before.before.before.before.if1.false) ∙ fit_tight (joined (clear_pieces every b.args.docid (pieces b.args.s.now ls))) (length b.args.out.now) (omega (arith, m.bytes, c.before.before.if2.false)) (omega (arith, m.bytes, c.if3.true)))
 
 put-all-requires : tie.Need-put-all-requires
 put-all-requires c κs =
@@ -72,10 +72,10 @@ returns-4 c =
     let b = c.before.before.before.before.before.before.before.before.before.before.before.before.before.before.before.before.before.before.before.before.before.before.before.before.before.before.before in
     λ ls e.
     let m = c.before.before.before.before.before.before.before.before.before.before.before.before.before.before.before.before.before.before.before.before.measure.ensures ls e in
-    gives-done (withdraw-some b.args.s.now ls (λ i. omega (arith, c.before.before.before.before.before.before.before.before.before.before.before.before.before.before.before.before.before.before.before.before.before.before.before.before.before.before.shared-slice-known.given i)) e b.args.docid (length b.args.out.now) (sym m.held ∙ not-false _ c.before.before.before.before.before.before.before.before.before.before.before.before.before.before.if1.false) ∙ fit-done (joined (clearPieces every b.args.docid (pieces b.args.s.now ls))) (length b.args.out.now) (omega (arith, m.bytes, c.before.before.before.before.before.before.before.before.before.before.before.before.if2.false)) (omega (arith, m.bytes, c.before.before.before.before.before.before.before.before.before.before.if3.false))) (omega (arith, m.bytes, c.before.before.before.before.before.before.before.before.before.before.if3.false)) (c.before.before.before.before.before.before.put_all_lem.ensures ls e)
+    gives-done (withdraw-some b.args.s.now ls (λ i. omega (arith, c.before.before.before.before.before.before.before.before.before.before.before.before.before.before.before.before.before.before.before.before.before.before.before.before.before.before.shared-slice-known.given i)) e b.args.docid (length b.args.out.now) (sym m.held ∙ not-false _ c.before.before.before.before.before.before.before.before.before.before.before.before.before.before.if1.false) ∙ fit-done (joined (clear_pieces every b.args.docid (pieces b.args.s.now ls))) (length b.args.out.now) (omega (arith, m.bytes, c.before.before.before.before.before.before.before.before.before.before.before.before.if2.false)) (omega (arith, m.bytes, c.before.before.before.before.before.before.before.before.before.before.if3.false))) (omega (arith, m.bytes, c.before.before.before.before.before.before.before.before.before.before.if3.false)) (c.before.before.before.before.before.before.put_all_lem.ensures ls e)
 
-pub withdraw-in-spec : {M : Type 1} → statement M
-withdraw-in-spec =
+pub withdraw_in_spec : {M : Type 1} → statement M
+withdraw_in_spec =
     tie.close
     (tie.spec
     measure-requires

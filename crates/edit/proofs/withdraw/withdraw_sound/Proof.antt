@@ -19,8 +19,8 @@ same_length c = search rules
 returns : tie.Need-returns
 returns c = c.before.before.before.before.withdraw-in.ensures
 
-pub withdraw-sound-spec : {M : Type 1} → statement M
-withdraw-sound-spec =
+pub withdraw_sound_spec : {M : Type 1} → statement M
+withdraw_sound_spec =
     tie.close
     (tie.spec
     slice-aggregate-withdraw-in

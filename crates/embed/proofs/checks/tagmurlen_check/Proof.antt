@@ -32,6 +32,6 @@ returns-2 c =
     let e : call.result ≡ Fault fields.0.0 fields.0.1.0 = cc in
     faulty (checked c.before.before.before.before.before.args.bytes.now) _ _ _ call.ensures e
 
-pub tagmurlen-check-spec : {M : Type 1} → statement M
-tagmurlen-check-spec =
+pub tagmurlen_check_spec : {M : Type 1} → statement M
+tagmurlen_check_spec =
     tie.close (tie.spec check-requires enum_told enum-known-number cast-result returns returns-2)

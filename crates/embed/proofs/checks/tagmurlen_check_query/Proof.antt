@@ -35,8 +35,8 @@ returns-2 c =
     let e : call.result.verdict ≡ Bad fields.0.0 fields.0.1.0 = cc in
     wrong (asked c.before.before.before.before.before.args.bytes.now) _ _ _ call.ensures.verdict e
 
-pub tagmurlen-check-query-spec : {M : Type 1} → statement M
-tagmurlen-check-query-spec =
+pub tagmurlen_check_query_spec : {M : Type 1} → statement M
+tagmurlen_check_query_spec =
     tie.close
     (tie.spec
     read-query-requires

@@ -16,6 +16,6 @@ same_length c = search rules
 returns : tie.Need-returns
 returns c = fills c.before.before.before.before.clear.ensures c.tell.ensures
 
-pub tagmurlen-clear-spec : {M : Type 1} → statement M
-tagmurlen-clear-spec =
+pub tagmurlen_clear_spec : {M : Type 1} → statement M
+tagmurlen_clear_spec =
     tie.close (tie.spec clear-requires tell-requires same_length returns)

@@ -16,6 +16,6 @@ same_length c = search rules
 returns : tie.Need-returns
 returns c = fills c.before.before.before.before.convert.ensures c.tell.ensures
 
-pub tagmurlen-convert-spec : {M : Type 1} → statement M
-tagmurlen-convert-spec =
+pub tagmurlen_convert_spec : {M : Type 1} → statement M
+tagmurlen_convert_spec =
     tie.close (tie.spec convert-requires tell-requires same_length returns)

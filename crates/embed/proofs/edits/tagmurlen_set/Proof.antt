@@ -16,6 +16,6 @@ same_length c = search rules
 returns : tie.Need-returns
 returns c = fills c.before.before.before.before.set.ensures c.tell.ensures
 
-pub tagmurlen-set-spec : {M : Type 1} → statement M
-tagmurlen-set-spec =
+pub tagmurlen_set_spec : {M : Type 1} → statement M
+tagmurlen_set_spec =
     tie.close (tie.spec set-requires tell-requires same_length returns)

@@ -16,6 +16,6 @@ same_length c = search rules
 returns : tie.Need-returns
 returns c = fills c.before.before.before.before.withdraw.ensures c.tell.ensures
 
-pub tagmurlen-withdraw-spec : {M : Type 1} → statement M
-tagmurlen-withdraw-spec =
+pub tagmurlen_withdraw_spec : {M : Type 1} → statement M
+tagmurlen_withdraw_spec =
     tie.close (tie.spec withdraw-requires tell-requires same_length returns)

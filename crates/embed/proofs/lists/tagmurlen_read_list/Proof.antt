@@ -21,6 +21,6 @@ returns c =
     let reads = c.before.before.before.before.before.before.read-list.ensures in
     (fills reads.docids c.tell.ensures, fills reads.scored c.tell.ensures)
 
-pub tagmurlen-read-list-spec : {M : Type 1} → statement M
-tagmurlen-read-list-spec =
+pub tagmurlen_read_list_spec : {M : Type 1} → statement M
+tagmurlen_read_list_spec =
     tie.close (tie.spec read-list-requires tell-requires same_length same-length-2 returns)

@@ -16,6 +16,6 @@ same_length c = search rules
 returns : tie.Need-returns
 returns c = fills c.before.before.before.before.write-list.ensures c.tell.ensures
 
-pub tagmurlen-write-list-spec : {M : Type 1} → statement M
-tagmurlen-write-list-spec =
+pub tagmurlen_write_list_spec : {M : Type 1} → statement M
+tagmurlen_write_list_spec =
     tie.close (tie.spec write-list-requires tell-requires same_length returns)

@@ -3,7 +3,7 @@ use native.Mathlib.Omega.{arith}
 use mathlib.Core.Path.{◌≡◌}
 use lib.ListN.{length}
 use borrow.Author.Rules.{rules}
-use Rattle.embed.proofs.Ranks.{both-columns}
+use Rattle.embed.proofs.Ranks.{both_columns}
 use Rattle.embed.proofs.rows.put_rows.Statement.{statement}
 use Rattle.embed.proofs.rows.put_rows.Tie as tie
 
@@ -37,10 +37,10 @@ returns c =
     let kept = start.args.kept in
     let a : length kept.docids ≡ 100 = search rules in
     let b : length kept.scores ≡ 100 = search rules in
-    both-columns kept.n kept.docids kept.scores _ _ _ _ _ _ (omega (arith, a, b)) c.before.before.before.before.before.before.before.copy_run.ensures c.before.before.copy-run2.ensures
+    both_columns kept.n kept.docids kept.scores _ _ _ _ _ _ (omega (arith, a, b)) c.before.before.before.before.before.before.before.copy_run.ensures c.before.before.copy-run2.ensures
 
-pub put-rows-spec : {M : Type 1} → statement M
-put-rows-spec =
+pub put_rows_spec : {M : Type 1} → statement M
+put_rows_spec =
     tie.close
     (tie.spec
     slice-aggregate-copy-run

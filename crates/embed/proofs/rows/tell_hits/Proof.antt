@@ -40,8 +40,8 @@ returns-2 c =
     let e : start.args.verdict ≡ Refused fields.0.0 fields.0.1.0 = cc in
     told-refusal _ _ _ _ _ _ _ _ e c.tell2.ensures
 
-pub tell-hits-spec : {M : Type 1} → statement M
-tell-hits-spec =
+pub tell_hits_spec : {M : Type 1} → statement M
+tell_hits_spec =
     tie.close
     (tie.spec
     enum_told

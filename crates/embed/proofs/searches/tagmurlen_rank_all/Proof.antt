@@ -28,8 +28,8 @@ same-length-2 c = search rules
 returns : tie.Need-returns
 returns c = ranks _ _ c.before.before.before.before.before.before.before.before.before.before.shorter.ensures c.before.before.before.before.before.before.before.before.before.rank-all.ensures c.before.before.before.before.tell-hits.ensures
 
-pub tagmurlen-rank-all-spec : {M : Type 1} → statement M
-tagmurlen-rank-all-spec =
+pub tagmurlen_rank_all_spec : {M : Type 1} → statement M
+tagmurlen_rank_all_spec =
     tie.close
     (tie.spec
     shorter-requires

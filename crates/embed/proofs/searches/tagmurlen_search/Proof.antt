@@ -38,8 +38,8 @@ same-length-5 c = search rules
 returns : tie.Need-returns
 returns c = finds _ _ _ _ _ c.before.before.before.before.before.before.before.before.before.before.before.before.before.before.before.before.before.before.before.shorter.ensures c.before.before.before.before.before.before.before.before.before.before.before.before.before.before.before.search.ensures c.before.before.before.before.tell-hits.ensures
 
-pub tagmurlen-search-spec : {M : Type 1} → statement M
-tagmurlen-search-spec =
+pub tagmurlen_search_spec : {M : Type 1} → statement M
+tagmurlen_search_spec =
     tie.close
     (tie.spec
     shorter-requires

@@ -10,13 +10,13 @@ use Rattle.query.specs.Query.{Question, asked}
 use Rattle.query.specs.Answers.{Carries}
 use Rattle.query.specs.Range.{InRange}
 use Rattle.query.specs.declared.read.Verdict.TheVariants.{Good, Bad}
-use Rattle.query.proofs.Accepted.{accepted-in-range}
+use Rattle.query.proofs.Accepted.{accepted_in_range}
 use Rattle.shelf.specs.Walk.{Listing, walk}
 use Rattle.shelf.specs.declared.check.Checked.TheVariants.{Sound, Fault}
-use Rattle.rank.specs.Match.{anyList}
+use Rattle.rank.specs.Match.{any_list}
 use Rattle.prune.specs.Prune.{exhaustive}
-use Rattle.exhaustive.specs.Lists.{listingsOf}
-use Rattle.exhaustive.proofs.Alls.{answers-as, told-bad, told-good, walk-bad, walk-good, all_asked, all-walk, all-rows, all-ranked, carried-few, found-mergeable, found-same}
+use Rattle.exhaustive.specs.Lists.{listings_of}
+use Rattle.exhaustive.proofs.Alls.{answers_as, told_bad, told-good, walk_bad, walk-good, all_asked, all-walk, all-rows, all-ranked, carried_few, found_mergeable, found-same}
 use Rattle.exhaustive.proofs.all.rank_all.Statement.{statement}
 use Rattle.exhaustive.proofs.all.rank_all.Tie as tie
 
@@ -43,7 +43,7 @@ bytes : (c : tie.After-enum-told) → Bytes c.before.before.before.before.before
 bytes c = λ i. omega (arith, c.before.before.before.before.before.shared-slice-known.given i)
 
 few : (c : tie.After-enum-told) → c.before.before.before.read-query.result.query.n ≤ 8
-few c = let g = accepted c in carried-few _ g.0 c.before.before.before.read-query.result.query (bytes c) g.1 g.2
+few c = let g = accepted c in carried_few _ g.0 c.before.before.before.read-query.result.query (bytes c) g.1 g.2
 
 find-terms-requires : tie.Need-find-terms-requires
 find-terms-requires c κs = few c.before.before
@@ -76,7 +76,7 @@ returns c =
     let good = told.before.before.before.before.before.before.before in
     let g = accepted good in
     let l = lists told in
-    answers-as (all-rows _ _ _ g.0 g.1 l.0 l.1 (omega (arith, c.before.if1.true, g.2.k))) c.refuse3.ensures
+    answers_as (all-rows _ _ _ g.0 g.1 l.0 l.1 (omega (arith, c.before.if1.true, g.2.k))) c.refuse3.ensures
 
 rank-found-requires : tie.Need-rank-found-requires
 rank-found-requires c κs =
@@ -85,8 +85,8 @@ rank-found-requires c κs =
     let good = find.before.before.before in
     let g = accepted good in
     let l = lists told in
-    let r : InRange g.0 = accepted-in-range _ g.0 (bytes good) g.1 in
-    found-mergeable _ g.0 good.before.before.before.read-query.result.query g.2 (few good) l.0 l.1 find.find-terms.result find.find-terms.ensures _ (omega (arith, g.2.k, r.k-low)) (omega (arith, g.2.k, r.k-high))
+    let r : InRange g.0 = accepted_in_range _ g.0 (bytes good) g.1 in
+    found_mergeable _ g.0 good.before.before.before.read-query.result.query g.2 (few good) l.0 l.1 find.find-terms.result find.find-terms.ensures _ (omega (arith, g.2.k, r.k_low)) (omega (arith, g.2.k, r.k_high))
 
 returns-2 : tie.Need-returns-2
 returns-2 c =
@@ -94,7 +94,7 @@ returns-2 c =
     let n = c.before.before.asking.given.0.0 in
     let o = c.before.before.asking.given.0.1.0 in
     let e : rd.read-query.result.verdict ≡ Bad n o = cc in
-    answers-as (all_asked _ _ _ n o (told-bad _ rd.read-query.result n o rd.read-query.ensures e)) c.refuse.ensures
+    answers_as (all_asked _ _ _ n o (told_bad _ rd.read-query.result n o rd.read-query.ensures e)) c.refuse.ensures
 
 returns-3 : tie.Need-returns-3
 returns-3 c =
@@ -103,7 +103,7 @@ returns-3 c =
     let n = c.before.before.walked.given.0.0 in
     let o = c.before.before.walked.given.0.1.0 in
     let e : find.find-terms.result.verdict ≡ Fault n o = cc in
-    answers-as (all-walk _ _ _ g.0 g.1 n o (walk-bad _ find.find-terms.result.verdict n o find.find-terms.ensures.verdict e)) c.refuse2.ensures
+    answers_as (all-walk _ _ _ g.0 g.1 n o (walk_bad _ find.find-terms.result.verdict n o find.find-terms.ensures.verdict e)) c.refuse2.ensures
 
 returns-4 : tie.Need-returns-4
 returns-4 c =
@@ -113,14 +113,14 @@ returns-4 c =
     let q = good.before.before.before.read-query.result.query in
     let g = accepted good in
     let l = lists told in
-    answers-as
+    answers_as
     (found-same _ g.0 q g.2 (few good) l.0 l.1 find.find-terms.result find.find-terms.ensures q.k
-    ∙ ap (λ (k : ℕ). exhaustive anyList k (listingsOf g.0.terms l.0)) g.2.k
+    ∙ ap (λ (k : ℕ). exhaustive any_list k (listings_of g.0.terms l.0)) g.2.k
     ∙ all-ranked _ _ _ g.0 g.1 l.0 l.1 (omega (arith, c.before.if1.false, g.2.k)))
     c.rank-found.ensures
 
-pub rank-all-spec : {M : Type 1} → statement M
-rank-all-spec =
+pub rank_all_spec : {M : Type 1} → statement M
+rank_all_spec =
     tie.close
     (tie.spec
     read-query-requires

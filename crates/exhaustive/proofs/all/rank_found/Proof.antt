@@ -4,11 +4,11 @@ use mathlib.Core.Path.{◌≡◌, sym, ap, ◌∙◌}
 use native.Mathlib.Omega.{arith}
 use borrow.Author.Rules.{rules}
 use lib.ListN.{length}
-use Rattle.prune.specs.Prune.{faultAll}
-use Rattle.exhaustive.specs.Merge.{listsFrom, wrongOf}
+use Rattle.prune.specs.Prune.{fault_all}
+use Rattle.exhaustive.specs.Merge.{lists_from, wrong_of}
 use Rattle.exhaustive.specs.declared.wrong.WrongBody.TheVariants.{At, Nowhere}
 use Rattle.exhaustive.proofs.Opens.{start-fault}
-use Rattle.exhaustive.proofs.Alls.{answers-as, fault-refuses}
+use Rattle.exhaustive.proofs.Alls.{answers_as, fault_refuses}
 use Rattle.exhaustive.proofs.all.rank_found.Statement.{statement}
 use Rattle.exhaustive.proofs.all.rank_found.Tie as tie
 
@@ -23,8 +23,8 @@ first-wrong-requires c κs = let st = c.before.before.before.before in (st.requi
 
 -- the first wrong body is that of the lists
 first : (c : tie.After-first-wrong) →
-    wrongOf c.first-wrong.result
-    ≡ faultAll (listsFrom c.before.before.before.before.before.args.shelf.now c.before.before.before.before.before.args.weights c.before.before.before.before.before.args.ats c.before.before.before.before.before.args.counts)
+    wrong_of c.first-wrong.result
+    ≡ fault_all (lists_from c.before.before.before.before.before.args.shelf.now c.before.before.before.before.before.args.weights c.before.before.before.before.before.args.ats c.before.before.before.before.before.args.counts)
 first c =
     let st = c.before.before.before.before.before in
     let w : length st.args.weights ≡ 8 = st.well-formed.1.1.1.0.1.0.1 in
@@ -48,16 +48,16 @@ returns-2 c =
     let fw = c.before.before.before.before in
     let e : fw.first-wrong.result ≡ At c.before.before.o.given.0.0 = cc in
     let a = fw.before.before.before.before.before.args in
-    answers-as (fault-refuses a.k (listsFrom a.shelf.now a.weights a.ats a.counts) _ (sym (first fw) ∙ ap wrongOf e)) c.refuse.ensures
+    answers_as (fault_refuses a.k (lists_from a.shelf.now a.weights a.ats a.counts) _ (sym (first fw) ∙ ap wrong_of e)) c.refuse.ensures
 
 returns-3 : tie.Need-returns-3
 returns-3 c =
     let fw = c.before.before.before in
     let e : fw.first-wrong.result ≡ Nowhere = cc in
-    absurd (fw.before.before.before.merge.ensures.wrong fw.before.if1.false (sym (first fw) ∙ ap wrongOf e))
+    absurd (fw.before.before.before.merge.ensures.wrong fw.before.if1.false (sym (first fw) ∙ ap wrong_of e))
 
-pub rank-found-spec : {M : Type 1} → statement M
-rank-found-spec =
+pub rank_found_spec : {M : Type 1} → statement M
+rank_found_spec =
     tie.close
     (tie.spec
     merge-requires

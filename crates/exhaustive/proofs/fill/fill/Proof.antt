@@ -4,7 +4,7 @@ use mathlib.Core.Path.{◌≡◌, sym}
 use mathlib.Core.Bool.{false≢true}
 use borrow.Author.Rules.{rules}
 use Rattle.exhaustive.specs.declared.fill.Supply.TheVariants.{Stands, Wrong}
-use Rattle.exhaustive.proofs.Fillings.{line_at, Filling, filling-none, filling-turn, filling-wrong, filling-done}
+use Rattle.exhaustive.proofs.Fillings.{line_at, Filling, filling_none, filling_turn, filling_wrong, filling_done}
 use Rattle.exhaustive.proofs.fill.fill.Statement.{statement}
 use Rattle.exhaustive.proofs.fill.fill.Tie as tie
 
@@ -15,7 +15,7 @@ abbrev decreases-loop : tie.decreases-loop
 decreases-loop shelf docs₀ scores₀ hs₀ ls₀ t₀ docs scores hs ls t = 8 - t
 
 loop-holds : tie.Need-loop-init invariant-loop decreases-loop
-loop-holds c = filling-none _ _ _ _ _ c.before.requires
+loop-holds c = filling_none _ _ _ _ _ c.before.requires
 
 mul-head : tie.Need-overflow-mul-head invariant-loop decreases-loop
 mul-head c = search rules
@@ -58,7 +58,7 @@ returns c =
     let at = f.before.before.before.before.before.before in
     let e : f.refill.result ≡ Wrong = cc in
     record {
-      wrong = λ q. filling-wrong _ _ _ _ _ _ _ at.loop.hs at.loop.ls at.loop.t at.loop.invariant (rw e at f.refill.ensures) f.before.before.before.before.before.loop-test.true;
+      wrong = λ q. filling_wrong _ _ _ _ _ _ _ at.loop.hs at.loop.ls at.loop.t at.loop.invariant (rw e at f.refill.ensures) f.before.before.before.before.before.loop-test.true;
       filled = λ q. absurd (false≢true q);
     }
 
@@ -75,14 +75,14 @@ loop-again c =
     let h = c.before.h.given.0.0 in
     let l = c.before.h.given.0.1.0 in
     let e : f.refill.result ≡ Stands h l = cc in
-    filling-turn _ _ _ _ _ _ _ at.loop.hs at.loop.ls at.loop.t at.loop.invariant f.before.before.before.before.before.loop-test.true _ _ h l (rw e at f.refill.ensures)
+    filling_turn _ _ _ _ _ _ _ at.loop.hs at.loop.ls at.loop.t at.loop.invariant f.before.before.before.before.before.loop-test.true _ _ h l (rw e at f.refill.ensures)
 
 returns-2 : tie.Need-returns-2 invariant-loop decreases-loop
 returns-2 c =
     let at = c.before in
     record {
       wrong = λ q. absurd (false≢true (sym q));
-      filled = λ q. filling-done _ _ _ _ _ _ _ at.loop.hs at.loop.ls at.loop.t at.loop.invariant c.loop-test.false;
+      filled = λ q. filling_done _ _ _ _ _ _ _ at.loop.hs at.loop.ls at.loop.t at.loop.invariant c.loop-test.false;
     }
 
 pub fill_spec : {M : Type 1} → statement M

@@ -6,13 +6,13 @@ use borrow.Author.Rules.{rules}
 use lib.ListN.{length, drop, get_or}
 use Rattle.scan.specs.Heads.{blank}
 use Rattle.rank.specs.Run.{none}
-use Rattle.exhaustive.specs.Merge.{horizonOf}
-use Rattle.exhaustive.proofs.Fillings.{noLeft, horizon-turn, horizon-past, horizon-top, nearer-top}
+use Rattle.exhaustive.specs.Merge.{horizon_of}
+use Rattle.exhaustive.proofs.Fillings.{no_left, horizon-turn, horizon-past, horizon-top, nearer-top}
 use Rattle.exhaustive.proofs.fill.horizon.Statement.{statement}
 use Rattle.exhaustive.proofs.fill.horizon.Tie as tie
 
 abbrev invariant-loop : tie.invariant-loop
-invariant-loop heads lefts last₀ i₀ last i = (i ≤ 8) × (last ≤ none) × (horizonOf heads lefts ≡ min last (horizonOf (drop i heads) (drop i lefts)))
+invariant-loop heads lefts last₀ i₀ last i = (i ≤ 8) × (last ≤ none) × (horizon_of heads lefts ≡ min last (horizon_of (drop i heads) (drop i lefts)))
 
 abbrev decreases-loop : tie.decreases-loop
 decreases-loop heads lefts last₀ i₀ last i = 8 - i
@@ -47,7 +47,7 @@ loop-again c =
     let st = at.before in
     let a : length st.args.t1 ≡ 8 = st.well-formed.0.1.0.1 in
     let b : length st.args.t2 ≡ 8 = st.well-formed.1.0.1.0.1 in
-    (omega arith, nearer-top (get_or st.args.t1 at.loop.i blank) (get_or st.args.t2 at.loop.i noLeft) at.loop.last c.nearer-of.result at.loop.invariant.1 c.nearer-of.ensures, at.loop.invariant.2 ∙ horizon-turn st.args.t1 st.args.t2 at.loop.i at.loop.last c.nearer-of.result (omega arith) (omega arith) c.nearer-of.ensures)
+    (omega arith, nearer-top (get_or st.args.t1 at.loop.i blank) (get_or st.args.t2 at.loop.i no_left) at.loop.last c.nearer-of.result at.loop.invariant.1 c.nearer-of.ensures, at.loop.invariant.2 ∙ horizon-turn st.args.t1 st.args.t2 at.loop.i at.loop.last c.nearer-of.result (omega arith) (omega arith) c.nearer-of.ensures)
 
 returns : tie.Need-returns invariant-loop decreases-loop
 returns c =
@@ -56,8 +56,8 @@ returns c =
     let a : length st.args.t1 ≡ 8 = st.well-formed.0.1.0.1 in
     sym (at.loop.invariant.2 ∙ horizon-past st.args.t1 st.args.t2 at.loop.i at.loop.last (omega arith) at.loop.invariant.1)
 
-pub horizon-spec : {M : Type 1} → statement M
-horizon-spec =
+pub horizon_spec : {M : Type 1} → statement M
+horizon_spec =
     tie.close
     (tie.spec
     invariant-loop

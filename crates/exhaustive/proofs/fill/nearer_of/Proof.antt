@@ -13,5 +13,5 @@ returns-2 c = rw (lt-ltb _ _ c.before.before.if1.true) (omega (arith, c.if2.fals
 returns-3 : tie.Need-returns-3
 returns-3 c = rw (le-ltb _ _ c.if1.false)
 
-pub nearer-of-spec : {M : Type 1} → statement M
-nearer-of-spec = tie.close (tie.spec returns returns-2 returns-3)
+pub nearer_of_spec : {M : Type 1} → statement M
+nearer_of_spec = tie.close (tie.spec returns returns-2 returns-3)

@@ -19,5 +19,5 @@ add-t7 c = omega (arith, c.before.requires (omega (arith, c.if1.false)))
 returns-2 : tie.Need-returns-2
 returns-2 c = rw (ne_eqb c.before.args.count 0 c.if1.false)
 
-pub reading-at-spec : {M : Type 1} → statement M
-reading-at-spec = tie.close (tie.spec returns add-sum mul-t6 add-t7 returns-2)
+pub reading_at_spec : {M : Type 1} → statement M
+reading_at_spec = tie.close (tie.spec returns add-sum mul-t6 add-t7 returns-2)

@@ -6,12 +6,12 @@ use Rattle.model.specs.Runs.{Bytes}
 use Rattle.shelf.specs.Blocks.{Steps}
 use Rattle.shelf.specs.declared.blocks.BlockStep.TheVariants.{Block, Last}
 use Rattle.scan.specs.declared.load.Loaded.TheVariants.{Stands, Wrong}
-use Rattle.exhaustive.proofs.Refills.{refill-stands, refill-last, load_ok, refill-wrong, refill-next}
+use Rattle.exhaustive.proofs.Refills.{refill_stands, refill-last, load_ok, refill-wrong, refill-next}
 use Rattle.exhaustive.proofs.fill.refill.Statement.{statement}
 use Rattle.exhaustive.proofs.fill.refill.Tie as tie
 
 returns : tie.Need-returns
-returns c = let st = c.before.before.before in refill-stands _ _ _ _ _ _ st.requires c.if1.true
+returns c = let st = c.before.before.before in refill_stands _ _ _ _ _ _ st.requires c.if1.true
 
 next-requires : tie.Need-next-requires
 next-requires c κs = c.before.before.before.before.requires.behind.rests
@@ -79,8 +79,8 @@ returns-4 c =
     refill-next _ _ _ _ _ _ st.requires (bytes k) f.0 _ _ _ _ f.1 f.2 _ _ c.before.h.given.0.0 k.before.before.before.before.before.if1.false
     (rw e at c.before.before.before.load.ensures)
 
-pub refill-spec : {M : Type 1} → statement M
-refill-spec =
+pub refill_spec : {M : Type 1} → statement M
+refill_spec =
     tie.close
     (tie.spec
     returns

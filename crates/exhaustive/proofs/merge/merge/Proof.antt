@@ -9,18 +9,18 @@ use borrow.Author.Rules.{rules}
 use lib.ListN.{length}
 use Rattle.model.specs.Runs.{Bytes}
 use Rattle.rank.specs.Run.{none, size}
-use Rattle.prune.specs.Prune.{termsOf, faultAll}
+use Rattle.prune.specs.Prune.{terms_of, fault_all}
 use Rattle.scan.specs.Heads.{roomy, terms}
-use Rattle.exhaustive.specs.Merge.{Lines, wholes, faultLeft, listsFrom}
+use Rattle.exhaustive.specs.Merge.{Lines, wholes, fault_left, lists_from}
 use Rattle.exhaustive.proofs.Fillings.{horizon-top}
 use Rattle.exhaustive.proofs.Opens.{start-lines, start-wholes, start-fault}
-use Rattle.exhaustive.proofs.Merges.{Merging, merging-none, merging-wrong, merging-done, merging-ready, merging-turn, merging-less}
+use Rattle.exhaustive.proofs.Merges.{Merging, merging_none, merging_wrong, merging_done, merging_ready, merging_turn, merging_less}
 use Rattle.exhaustive.proofs.merge.merge.Statement.{statement}
 use Rattle.exhaustive.proofs.merge.merge.Tie as tie
 
 abbrev invariant-loop : tie.invariant-loop
 invariant-loop shelf k docs₀ scores₀ heads₀ lefts₀ kept₀ docs scores heads lefts kept =
-    Merging shelf k (wholes shelf (terms docs₀ scores₀ heads₀) lefts₀) (faultLeft shelf lefts₀) docs scores heads lefts kept
+    Merging shelf k (wholes shelf (terms docs₀ scores₀ heads₀) lefts₀) (fault_left shelf lefts₀) docs scores heads lefts kept
 
 abbrev decreases-loop : tie.decreases-loop
 decreases-loop shelf k docs₀ scores₀ heads₀ lefts₀ kept₀ docs scores heads lefts kept = size (wholes shelf (terms docs scores heads) lefts)
@@ -41,14 +41,14 @@ lines c ds ss d e =
 
 all_of : (c : tie.After-open-all invariant-loop decreases-loop) (ds ss : List ℕ) →
     wholes c.before.before.args.shelf.now (terms ds ss c.open-all.result.heads) c.open-all.result.lefts
-    ≡ termsOf (listsFrom c.before.before.args.shelf.now c.before.before.args.weights c.before.before.args.ats c.before.before.args.counts)
+    ≡ terms_of (lists_from c.before.before.args.shelf.now c.before.before.args.weights c.before.before.args.ats c.before.before.args.counts)
 all_of c ds ss =
     let st = c.before.before in
     rw (c.open-all.ensures.heads, c.open-all.ensures.lefts) (start-wholes st.args.shelf.now ds ss 0 st.args.weights st.args.ats st.args.counts)
 
 bad-of : (c : tie.After-open-all invariant-loop decreases-loop) →
-    faultLeft c.before.before.args.shelf.now c.open-all.result.lefts
-    ≡ faultAll (listsFrom c.before.before.args.shelf.now c.before.before.args.weights c.before.before.args.ats c.before.before.args.counts)
+    fault_left c.before.before.args.shelf.now c.open-all.result.lefts
+    ≡ fault_all (lists_from c.before.before.args.shelf.now c.before.before.args.weights c.before.before.args.ats c.before.before.args.counts)
 bad-of c =
     let st = c.before.before in
     let w : length st.args.weights ≡ 8 = st.well-formed.1.1.1.0.1.0.1 in
@@ -56,7 +56,7 @@ bad-of c =
     rw c.open-all.ensures.lefts (start-fault st.args.shelf.now st.args.weights st.args.ats st.args.counts (omega arith))
 
 loop-holds : tie.Need-loop-init invariant-loop decreases-loop
-loop-holds c = merging-none _ _ _ _ _ _ _ _ _ (lines c.before.before.before _ _ refl refl) refl refl c.new.ensures
+loop-holds c = merging_none _ _ _ _ _ _ _ _ _ (lines c.before.before.before _ _ refl refl) refl refl c.new.ensures
 
 fill-requires : tie.Need-fill-requires invariant-loop decreases-loop
 fill-requires c κs = c.before.before.loop.invariant.lines
@@ -72,7 +72,7 @@ returns c =
     let f = fill.fill.ensures.filled c.before.before.if1.true in
     record {
       wrong = λ q. absurd (false≢true (sym q));
-      ranked = λ q. rw (all_of opened _ _, bad-of opened) at (merging-done _ _ _ _ _ _ _ _ _ at.loop.invariant _ _ _ _ f c.before.horizon.result c.before.horizon.ensures c.if2.true);
+      ranked = λ q. rw (all_of opened _ _, bad-of opened) at (merging_done _ _ _ _ _ _ _ _ _ at.loop.invariant _ _ _ _ f c.before.horizon.result c.before.horizon.ensures c.if2.true);
       few = at.loop.invariant.room;
       whole = at.loop.invariant.whole;
     }
@@ -88,7 +88,7 @@ run-requires c κs =
     let at = fill.before.before.before in
     let st = at.before.before.before.before.before.before in
     let f = fill.fill.ensures.filled stop.before.before.if1.true in
-    merging-ready _ _ _ _ _ _ _ _ _ at.loop.invariant _ _ _ _ f stop.before.horizon.result stop.before.horizon.ensures (last-below stop) st.requires.least st.requires.most
+    merging_ready _ _ _ _ _ _ _ _ _ at.loop.invariant _ _ _ _ f stop.before.horizon.result stop.before.horizon.ensures (last-below stop) st.requires.least st.requires.most
 
 loop-less : tie.Need-loop-smaller invariant-loop decreases-loop
 loop-less c =
@@ -97,7 +97,7 @@ loop-less c =
     let fill = stop.before.before.before.before.before in
     let at = fill.before.before.before in
     let f = fill.fill.ensures.filled stop.before.before.if1.true in
-    merging-less _ _ _ _ _ _ _ _ _ at.loop.invariant _ _ _ _ f stop.before.horizon.result stop.before.horizon.ensures (last-below stop) run.run.result run.run.ensures
+    merging_less _ _ _ _ _ _ _ _ _ at.loop.invariant _ _ _ _ f stop.before.horizon.result stop.before.horizon.ensures (last-below stop) run.run.result run.run.ensures
 
 loop-again : tie.Need-loop-preserved invariant-loop decreases-loop
 loop-again c =
@@ -108,7 +108,7 @@ loop-again c =
     let known = at.before.before.before.before.before in
     let f = fill.fill.ensures.filled stop.before.before.if1.true in
     let bytes : Bytes known.before.args.shelf.now = λ i. omega (arith, known.shared-slice-known.given i) in
-    merging-turn _ _ _ _ _ _ _ _ _ at.loop.invariant _ _ _ _ f stop.before.horizon.result stop.before.horizon.ensures (last-below stop) run.run.result run.run.ensures bytes
+    merging_turn _ _ _ _ _ _ _ _ _ at.loop.invariant _ _ _ _ f stop.before.horizon.result stop.before.horizon.ensures (last-below stop) run.run.result run.run.ensures bytes
 
 returns-2 : tie.Need-returns-2 invariant-loop decreases-loop
 returns-2 c =
@@ -116,14 +116,14 @@ returns-2 c =
     let at = fill.before.before.before in
     let opened = at.before.before.before.before in
     record {
-      wrong = λ q e. merging-wrong _ _ _ _ _ _ _ _ _ at.loop.invariant (fill.fill.ensures.wrong c.if1.false) (bad-of opened ∙ e);
+      wrong = λ q e. merging_wrong _ _ _ _ _ _ _ _ _ at.loop.invariant (fill.fill.ensures.wrong c.if1.false) (bad-of opened ∙ e);
       ranked = λ q. absurd (false≢true q);
       few = at.loop.invariant.room;
       whole = at.loop.invariant.whole;
     }
 
-pub merge-spec : {M : Type 1} → statement M
-merge-spec =
+pub merge_spec : {M : Type 1} → statement M
+merge_spec =
     tie.close
     (tie.spec
     invariant-loop

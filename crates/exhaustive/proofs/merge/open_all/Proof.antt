@@ -5,16 +5,16 @@ use native.Mathlib.Omega.{arith}
 use borrow.Author.Rules.{rules}
 use lib.ListN.{length, take, get_or, length-set}
 use Rattle.scan.specs.Heads.{blank}
-use Rattle.exhaustive.specs.Merge.{startHead, startHeads, startLefts}
+use Rattle.exhaustive.specs.Merge.{start_head, start_heads, start_lefts}
 use Rattle.exhaustive.specs.declared.fill.Left.{Left}
-use Rattle.exhaustive.proofs.Fillings.{noLeft}
+use Rattle.exhaustive.proofs.Fillings.{no_left}
 use Rattle.exhaustive.proofs.Opens.{front-turn, front-done, heads-long, heads-at, lefts-long, lefts-at, addressed-at}
 use Rattle.exhaustive.proofs.merge.open_all.Statement.{statement}
 use Rattle.exhaustive.proofs.merge.open_all.Tie as tie
 
 abbrev invariant-loop : tie.invariant-loop
 invariant-loop ats counts weights hs₀ ls₀ t₀ hs ls t =
-    (t ≤ 8) × (length hs ≡ 8) × (length ls ≡ 8) × (take t hs ≡ take t (startHeads 0 weights)) × (take t ls ≡ take t (startLefts ats counts))
+    (t ≤ 8) × (length hs ≡ 8) × (length ls ≡ 8) × (take t hs ≡ take t (start_heads 0 weights)) × (take t ls ≡ take t (start_lefts ats counts))
 
 abbrev decreases-loop : tie.decreases-loop
 decreases-loop ats counts weights hs₀ ls₀ t₀ hs ls t = 8 - t
@@ -76,14 +76,14 @@ loop-again c =
     let w : length st.args.t3 ≡ 8 = st.well-formed.1.1.0.1.0.1 in
     let l : t < 8 = c.before.loop-test.true in
     let zero : 0 + t ≡ t = omega arith in
-    let head : startHead t (get_or st.args.t3 t 0) ≡ get_or (startHeads 0 st.args.t3) t blank = rw zero at (heads-at 0 t st.args.t3 (omega arith)) in
-    let left : record { blocks = c.reading-at2.result; top = 0 } ≡ get_or (startLefts st.args.t1 st.args.t2) t noLeft =
+    let head : start_head t (get_or st.args.t3 t 0) ≡ get_or (start_heads 0 st.args.t3) t blank = rw zero at (heads-at 0 t st.args.t3 (omega arith)) in
+    let left : record { blocks = c.reading-at2.result; top = 0 } ≡ get_or (start_lefts st.args.t1 st.args.t2) t no_left =
     ap {B = Left} (λ r. record { blocks = r; top = 0 }) c.reading-at2.ensures ∙ lefts-at t st.args.t1 st.args.t2 (omega arith) (omega arith) in (
       omega arith,
       length-set at.loop.hs t _ ∙ at.loop.invariant.1,
       length-set at.loop.ls t _ ∙ at.loop.invariant.2,
-      front-turn blank at.loop.hs (startHeads 0 st.args.t3) t _ (omega arith) (omega (arith, heads-long 0 st.args.t3)) at.loop.invariant.3 head,
-      front-turn noLeft at.loop.ls (startLefts st.args.t1 st.args.t2) t _ (omega arith) (omega (arith, lefts-long st.args.t1 st.args.t2 (omega arith))) at.loop.invariant.4 left,
+      front-turn blank at.loop.hs (start_heads 0 st.args.t3) t _ (omega arith) (omega (arith, heads-long 0 st.args.t3)) at.loop.invariant.3 head,
+      front-turn no_left at.loop.ls (start_lefts st.args.t1 st.args.t2) t _ (omega arith) (omega (arith, lefts-long st.args.t1 st.args.t2 (omega arith))) at.loop.invariant.4 left,
     )
 
 returns : tie.Need-returns invariant-loop decreases-loop
@@ -94,12 +94,12 @@ returns c =
     let b : length st.args.t2 ≡ 8 = st.well-formed.1.0.1.0.1 in
     let w : length st.args.t3 ≡ 8 = st.well-formed.1.1.0.1.0.1 in
     record {
-      heads = front-done blank at.loop.hs (startHeads 0 st.args.t3) 8 at.loop.t at.loop.invariant.1 (heads-long 0 st.args.t3 ∙ w) c.loop-test.false at.loop.invariant.3;
-      lefts = front-done noLeft at.loop.ls (startLefts st.args.t1 st.args.t2) 8 at.loop.t at.loop.invariant.2 (lefts-long st.args.t1 st.args.t2 (a ∙ sym b) ∙ a) c.loop-test.false at.loop.invariant.4;
+      heads = front-done blank at.loop.hs (start_heads 0 st.args.t3) 8 at.loop.t at.loop.invariant.1 (heads-long 0 st.args.t3 ∙ w) c.loop-test.false at.loop.invariant.3;
+      lefts = front-done no_left at.loop.ls (start_lefts st.args.t1 st.args.t2) 8 at.loop.t at.loop.invariant.2 (lefts-long st.args.t1 st.args.t2 (a ∙ sym b) ∙ a) c.loop-test.false at.loop.invariant.4;
     }
 
-pub open-all-spec : {M : Type 1} → statement M
-open-all-spec =
+pub open_all_spec : {M : Type 1} → statement M
+open_all_spec =
     tie.close
     (tie.spec
     invariant-loop

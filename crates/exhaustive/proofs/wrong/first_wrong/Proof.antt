@@ -6,15 +6,15 @@ use native.Mathlib.Omega.{arith}
 use borrow.Author.Rules.{rules}
 use lib.ListN.{length, drop, get_or}
 use Rattle.shelf.specs.declared.blocks.Reading.{Reading}
-use Rattle.prune.specs.Prune.{earlier, faultIn}
-use Rattle.exhaustive.specs.Merge.{onShelf, readingAt, faultLeft, startLefts, wrongOf}
+use Rattle.prune.specs.Prune.{earlier, fault_in}
+use Rattle.exhaustive.specs.Merge.{on_shelf, reading_at, fault_left, start_lefts, wrong_of}
 use Rattle.exhaustive.proofs.Opens.{addressed-at}
 use Rattle.exhaustive.proofs.Wrongs.{walked_at, lists-turn, lists-done}
 use Rattle.exhaustive.proofs.wrong.first_wrong.Statement.{statement}
 use Rattle.exhaustive.proofs.wrong.first_wrong.Tie as tie
 
 abbrev invariant-loop : tie.invariant-loop
-invariant-loop shelf ats counts w₀ t₀ w t = (t ≤ 8) × (earlier (wrongOf w) (faultLeft shelf (drop t (startLefts ats counts))) ≡ faultLeft shelf (startLefts ats counts))
+invariant-loop shelf ats counts w₀ t₀ w t = (t ≤ 8) × (earlier (wrong_of w) (fault_left shelf (drop t (start_lefts ats counts))) ≡ fault_left shelf (start_lefts ats counts))
 
 abbrev decreases-loop : tie.decreases-loop
 decreases-loop shelf ats counts w₀ t₀ w t = 8 - t
@@ -60,9 +60,9 @@ loop-again c =
     let s = st.args.shelf.now in
     let a : length st.args.t2 ≡ 8 = st.well-formed.1.0.1.0.1 in
     let b : length st.args.t3 ≡ 8 = st.well-formed.1.1.0.1.0.1 in
-    let q : wrongOf c.wrong-in.result ≡ earlier (wrongOf at.loop.w) (faultIn (onShelf s (readingAt (get_or st.args.t2 at.loop.t 0) (get_or st.args.t3 at.loop.t 0)))) =
-    c.wrong-in.ensures ∙ ap {B = Option _} (λ (r : Reading). earlier (wrongOf at.loop.w) (faultIn (onShelf s r))) c.before.reading-at.ensures in
-    (omega arith, lists-turn s st.args.t2 st.args.t3 (a ∙ sym b) at.loop.t (wrongOf at.loop.w) (wrongOf c.wrong-in.result) (omega arith) q at.loop.invariant.1)
+    let q : wrong_of c.wrong-in.result ≡ earlier (wrong_of at.loop.w) (fault_in (on_shelf s (reading_at (get_or st.args.t2 at.loop.t 0) (get_or st.args.t3 at.loop.t 0)))) =
+    c.wrong-in.ensures ∙ ap {B = Option _} (λ (r : Reading). earlier (wrong_of at.loop.w) (fault_in (on_shelf s r))) c.before.reading-at.ensures in
+    (omega arith, lists-turn s st.args.t2 st.args.t3 (a ∙ sym b) at.loop.t (wrong_of at.loop.w) (wrong_of c.wrong-in.result) (omega arith) q at.loop.invariant.1)
 
 returns : tie.Need-returns invariant-loop decreases-loop
 returns c =
@@ -70,10 +70,10 @@ returns c =
     let st = at.before.before in
     let a : length st.args.t2 ≡ 8 = st.well-formed.1.0.1.0.1 in
     let b : length st.args.t3 ≡ 8 = st.well-formed.1.1.0.1.0.1 in
-    lists-done st.args.shelf.now st.args.t2 st.args.t3 (a ∙ sym b) at.loop.t (wrongOf at.loop.w) (omega (arith, c.loop-test.false)) at.loop.invariant.1
+    lists-done st.args.shelf.now st.args.t2 st.args.t3 (a ∙ sym b) at.loop.t (wrong_of at.loop.w) (omega (arith, c.loop-test.false)) at.loop.invariant.1
 
-pub first-wrong-spec : {M : Type 1} → statement M
-first-wrong-spec =
+pub first_wrong_spec : {M : Type 1} → statement M
+first_wrong_spec =
     tie.close
     (tie.spec
     invariant-loop

@@ -5,8 +5,8 @@ use native.Mathlib.Omega.{arith}
 use borrow.Author.Rules.{rules}
 use lib.ListN.{take, drop}
 use Prim.Native.Nat.{◌-◌}
-use Rattle.block.specs.Body.{rightBody}
-use Rattle.exhaustive.specs.Merge.{wrongOf}
+use Rattle.block.specs.Body.{right_body}
+use Rattle.exhaustive.specs.Merge.{wrong_of}
 use Rattle.exhaustive.proofs.Wrongs.{earlier-end}
 use Rattle.exhaustive.proofs.wrong.judged.Statement.{statement}
 use Rattle.exhaustive.proofs.wrong.judged.Tie as tie
@@ -26,8 +26,8 @@ right-body-requires c κs = search rules
 returns : tie.Need-returns
 returns c =
     let st = c.before.before.before.before in
-    let e : rightBody st.args.m (take (st.args.end - st.args.start) (drop st.args.start st.args.shelf.now)) ≡ true = sym c.before.right-body.ensures ∙ c.if1.true in
-    rw e (sym (earlier-end (wrongOf st.args.w)))
+    let e : right_body st.args.m (take (st.args.end - st.args.start) (drop st.args.start st.args.shelf.now)) ≡ true = sym c.before.right-body.ensures ∙ c.if1.true in
+    rw e (sym (earlier-end (wrong_of st.args.w)))
 
 sub-sooner : tie.Need-overflow-sub-sooner
 sub-sooner c = omega (arith, c.before.before.before.before.requires.0)
@@ -38,11 +38,11 @@ sooner-requires c κs = search rules
 returns-2 : tie.Need-returns-2
 returns-2 c =
     let st = c.before.before.before.before.before in
-    let e : rightBody st.args.m (take (st.args.end - st.args.start) (drop st.args.start st.args.shelf.now)) ≡ false = sym c.before.before.right-body.ensures ∙ c.before.if1.false in
+    let e : right_body st.args.m (take (st.args.end - st.args.start) (drop st.args.start st.args.shelf.now)) ≡ false = sym c.before.before.right-body.ensures ∙ c.before.if1.false in
     rw e c.sooner.ensures
 
-pub judged-spec : {M : Type 1} → statement M
-judged-spec =
+pub judged_spec : {M : Type 1} → statement M
+judged_spec =
     tie.close
     (tie.spec
     sub-right-body

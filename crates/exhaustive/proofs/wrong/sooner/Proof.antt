@@ -27,5 +27,5 @@ returns-2 c =
 returns-3 : tie.Need-returns-3
 returns-3 c = let e : c.before.before.args.w ≡ Nowhere = cc in rw e
 
-pub sooner-spec : {M : Type 1} → statement M
-sooner-spec = tie.close (tie.spec enum-known-w returns enum_told returns-2 returns-3)
+pub sooner_spec : {M : Type 1} → statement M
+sooner_spec = tie.close (tie.spec enum-known-w returns enum_told returns-2 returns-3)

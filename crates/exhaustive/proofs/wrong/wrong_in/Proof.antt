@@ -4,14 +4,14 @@ use native.Mathlib.Omega.{arith}
 use borrow.Author.Rules.{rules}
 use Rattle.shelf.specs.Blocks.{Steps}
 use Rattle.shelf.specs.declared.blocks.BlockStep.TheVariants.{Block, Last}
-use Rattle.prune.specs.Prune.{earlier, faultIn}
-use Rattle.exhaustive.specs.Merge.{onShelf, wrongOf}
-use Rattle.exhaustive.proofs.Wrongs.{Seeking, seeking-turn, seeking-done}
+use Rattle.prune.specs.Prune.{earlier, fault_in}
+use Rattle.exhaustive.specs.Merge.{on_shelf, wrong_of}
+use Rattle.exhaustive.proofs.Wrongs.{Seeking, seeking_turn, seeking_done}
 use Rattle.exhaustive.proofs.wrong.wrong_in.Statement.{statement}
 use Rattle.exhaustive.proofs.wrong.wrong_in.Tie as tie
 
 abbrev invariant-loop : tie.invariant-loop
-invariant-loop shelf r₀ w₀ r w = Seeking shelf (earlier (wrongOf w₀) (faultIn (onShelf shelf r₀))) r (wrongOf w)
+invariant-loop shelf r₀ w₀ r w = Seeking shelf (earlier (wrong_of w₀) (fault_in (on_shelf shelf r₀))) r (wrong_of w)
 
 abbrev decreases-loop : tie.decreases-loop
 decreases-loop shelf r₀ w₀ r w = r.left
@@ -43,7 +43,7 @@ loop-again : tie.Need-loop-preserved invariant-loop decreases-loop
 loop-again c =
     let f = found c.before in
     let l = c.before.before.before.before.before.loop in
-    seeking-turn _ _ l.r (wrongOf l.w) (wrongOf c.judged.result) f.0 _ _ _ _ f.1 f.2 c.judged.ensures l.invariant
+    seeking_turn _ _ l.r (wrong_of l.w) (wrong_of c.judged.result) f.0 _ _ _ _ f.1 f.2 c.judged.ensures l.invariant
 
 enum_told : tie.Need-enum-told invariant-loop decreases-loop
 enum_told c = search rules
@@ -54,10 +54,10 @@ returns c =
     let s = c.before.before.before.before.before.args.shelf.now in
     let e : c.before.before.next.result ≡ Last = cc in
     let d : Steps s l.r Last = rw e at c.before.before.next.ensures in
-    seeking-done s _ l.r (wrongOf l.w) d.0 l.invariant
+    seeking_done s _ l.r (wrong_of l.w) d.0 l.invariant
 
-pub wrong-in-spec : {M : Type 1} → statement M
-wrong-in-spec =
+pub wrong_in_spec : {M : Type 1} → statement M
+wrong_in_spec =
     tie.close
     (tie.spec
     invariant-loop

@@ -12,5 +12,5 @@ returns-2 c = rw (le-leb _ _ c.before.if1.false, lt-leb _ _ c.if2.true)
 returns-3 : tie.Need-returns-3
 returns-3 c = rw (le-leb _ _ c.before.if1.false, le-leb _ _ c.if2.false)
 
-pub has-room-spec : {M : Type 1} → statement M
-has-room-spec = tie.close (tie.spec returns returns-2 returns-3)
+pub has_room_spec : {M : Type 1} → statement M
+has_room_spec = tie.close (tie.spec returns returns-2 returns-3)

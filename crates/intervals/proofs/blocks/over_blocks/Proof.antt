@@ -3,7 +3,7 @@ use Prim.Native.Nat.{◌+◌}
 use mathlib.Core.Path.{refl, sym, ◌∙◌}
 use lib.ListN.{length}
 use native.Mathlib.Omega.{arith}
-use Rattle.intervals.proofs.Bookings.{blocks-fine, cuts-few, blocks-raise, blocks-run, blocks-done, blocks-short, room_of}
+use Rattle.intervals.proofs.Bookings.{blocks_fine, cuts-few, blocks-raise, blocks-run, blocks-done, blocks-short, room_of}
 use borrow.Author.Rules.{rules}
 use Rattle.intervals.proofs.blocks.over_blocks.Statement.{statement}
 use Rattle.intervals.proofs.blocks.over_blocks.Tie as tie
@@ -12,7 +12,7 @@ slice-aggregate-all-cuts : tie.Need-slice-aggregate-all-cuts
 slice-aggregate-all-cuts c = search rules
 
 all-cuts-requires : tie.Need-all-cuts-requires
-all-cuts-requires c κs = (blocks-fine _ _ _ _ _ _ _ _ _ c.before.before.before.before.before.before.before.before.before.before.before.before.requires, omega arith, omega (arith, c.before.before.before.before.before.before.before.before.before.before.before.before.requires.short), omega arith)
+all-cuts-requires c κs = (blocks_fine _ _ _ _ _ _ _ _ _ c.before.before.before.before.before.before.before.before.before.before.before.before.requires, omega arith, omega (arith, c.before.before.before.before.before.before.before.before.before.before.before.before.requires.short), omega arith)
 
 add-n : tie.Need-overflow-add-n
 add-n c =
@@ -105,8 +105,8 @@ new-requires c κs = search rules
 returns-2 : tie.Need-returns-2
 returns-2 c = blocks-short _ _ _ _ _ _ _ _ _ c.before.before.before.before.before.before.before.before.before.before.before.before.before.before.before.before.before.requires _ _ _ c.before.before.before.before.all-cuts.ensures _ _ _ _ c.new.ensures (sym c.before.before.has_room.ensures ∙ c.before.if1.false)
 
-pub over-blocks-spec : {M : Type 1} → statement M
-over-blocks-spec =
+pub over_blocks_spec : {M : Type 1} → statement M
+over_blocks_spec =
     tie.close
     (tie.spec
     slice-aggregate-all-cuts

@@ -2,7 +2,7 @@
 use Prim.Native.Nat.{◌+◌, ◌-◌}
 use mathlib.Core.List.{◌∷◌}
 use native.Mathlib.Omega.{arith}
-use Rattle.prune.proofs.Gathers.{Copying, copying-none, copying-more, copying-done}
+use Rattle.prune.proofs.Gathers.{Copying, copying_none, copying_more, copying_done}
 use Rattle.intervals.proofs.book.fill_firsts.Statement.{statement}
 use Rattle.intervals.proofs.book.fill_firsts.Tie as tie
 
@@ -13,7 +13,7 @@ abbrev decreases-loop : tie.decreases-loop
 decreases-loop cuts n firsts₀ i₀ firsts i = n + 1 - i
 
 loop-holds : tie.Need-loop-init invariant-loop decreases-loop
-loop-holds c = copying-none _ _ _
+loop-holds c = copying_none _ _ _
 
 start-at-requires : tie.Need-start-at-requires invariant-loop decreases-loop
 start-at-requires c κs = omega arith
@@ -34,16 +34,16 @@ loop-again : tie.Need-loop-preserved invariant-loop decreases-loop
 loop-again c =
     let a = c.before.before.before.before.before.args in
     let l = c.before.before.loop in
-    rw c.start-at.ensures (copying-more (1 ∷ a.cuts.now) a.firsts.now l.firsts (a.n + 1) l.i (omega arith) (omega arith) (omega arith) l.invariant)
+    rw c.start-at.ensures (copying_more (1 ∷ a.cuts.now) a.firsts.now l.firsts (a.n + 1) l.i (omega arith) (omega arith) (omega arith) l.invariant)
 
 same_length : tie.Need-same-length invariant-loop decreases-loop
 same_length c = omega arith
 
 returns : tie.Need-returns invariant-loop decreases-loop
-returns c = copying-done _ _ _ _ _ (omega arith) (omega arith) c.before.loop.invariant
+returns c = copying_done _ _ _ _ _ (omega arith) (omega arith) c.before.loop.invariant
 
-pub fill-firsts-spec : {M : Type 1} → statement M
-fill-firsts-spec =
+pub fill_firsts_spec : {M : Type 1} → statement M
+fill_firsts_spec =
     tie.close
     (tie.spec
     invariant-loop

@@ -1,7 +1,7 @@
 -- `mark_all` meets its contract. Assumes nothing.
 use Prim.Native.Nat.{◌-◌}
 use native.Mathlib.Omega.{arith}
-use Rattle.intervals.proofs.Marks.{Marking, marking-none, marking-more, marking-done}
+use Rattle.intervals.proofs.Marks.{Marking, marking_none, marking_more, marking_done}
 use Rattle.intervals.proofs.book.mark_all.Statement.{statement}
 use Rattle.intervals.proofs.book.mark_all.Tie as tie
 
@@ -12,7 +12,7 @@ abbrev decreases-loop : tie.decreases-loop
 decreases-loop marks₀ from upto mark i₀ marks i = upto - i
 
 loop-holds : tie.Need-loop-init invariant-loop decreases-loop
-loop-holds c = marking-none _ _ _ _ (omega arith)
+loop-holds c = marking_none _ _ _ _ (omega arith)
 
 slice-write-marks : tie.Need-slice-write-marks invariant-loop decreases-loop
 slice-write-marks c = omega arith
@@ -24,16 +24,16 @@ loop-less : tie.Need-loop-smaller invariant-loop decreases-loop
 loop-less c = omega arith
 
 loop-again : tie.Need-loop-preserved invariant-loop decreases-loop
-loop-again c = marking-more _ _ _ _ _ _ (omega arith) c.before.loop.invariant
+loop-again c = marking_more _ _ _ _ _ _ (omega arith) c.before.loop.invariant
 
 same_length : tie.Need-same-length invariant-loop decreases-loop
 same_length c = omega arith
 
 returns : tie.Need-returns invariant-loop decreases-loop
-returns c = marking-done _ _ _ _ _ _ (omega arith) c.before.loop.invariant
+returns c = marking_done _ _ _ _ _ _ (omega arith) c.before.loop.invariant
 
-pub mark-all-spec : {M : Type 1} → statement M
-mark-all-spec =
+pub mark_all_spec : {M : Type 1} → statement M
+mark_all_spec =
     tie.close
     (tie.spec
     invariant-loop

@@ -26,6 +26,6 @@ returns-2 c =
     let e : i ≡ suc (i - 1) = omega arith in
     sym (ap {B = ℕ} (λ j. get_or (1 ∷ c.before.before.args.cuts.now) j 0) e)
 
-pub start-at-spec : {M : Type 1} → statement M
-start-at-spec =
+pub start_at_spec : {M : Type 1} → statement M
+start_at_spec =
     tie.close (tie.spec returns sub-result mul-result shared-slice-read-result returns-2)

@@ -19,6 +19,6 @@ shared-slice-read-result c = search rules
 returns-2 : tie.Need-returns-2
 returns-2 c = from_next _ _ c.before.if1.false
 
-pub from-of-spec : {M : Type 1} → statement M
-from-of-spec =
+pub from_of_spec : {M : Type 1} → statement M
+from_of_spec =
     tie.close (tie.spec returns sub-result mul-result shared-slice-read-result returns-2)

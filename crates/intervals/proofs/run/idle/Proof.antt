@@ -2,7 +2,7 @@
 use Prim.Native.Nat.{◌-◌}
 use mathlib.Core.Path.{refl}
 use native.Mathlib.Omega.{arith}
-use Rattle.intervals.proofs.Beginnings.{idles-none, idles-more, idles-done}
+use Rattle.intervals.proofs.Beginnings.{idles_none, idles_more, idles_done}
 use Rattle.intervals.specs.Run.{Idles}
 use Rattle.intervals.proofs.run.idle.Statement.{statement}
 use Rattle.intervals.proofs.run.idle.Tie as tie
@@ -17,7 +17,7 @@ ended-requires : tie.Need-ended-requires invariant-loop decreases-loop
 ended-requires c κs = omega arith
 
 loop-holds : tie.Need-loop-init invariant-loop decreases-loop
-loop-holds c = idles-none _ _ refl
+loop-holds c = idles_none _ _ refl
 
 shared-slice-read-ended : tie.Need-shared-slice-read-ended invariant-loop decreases-loop
 shared-slice-read-ended c = omega (arith, c.before.before.before.before.before.requires)
@@ -38,10 +38,10 @@ loop-less : tie.Need-loop-smaller invariant-loop decreases-loop
 loop-less c = omega arith
 
 loop-again : tie.Need-loop-preserved invariant-loop decreases-loop
-loop-again c = idles-more _ _ _ _ (omega arith) c.ended2.ensures c.before.before.before.loop.invariant
+loop-again c = idles_more _ _ _ _ (omega arith) c.ended2.ensures c.before.before.before.loop.invariant
 
 returns : tie.Need-returns invariant-loop decreases-loop
-returns c = idles-done _ _ _ (omega arith) c.before.loop.invariant
+returns c = idles_done _ _ _ (omega arith) c.before.loop.invariant
 
 pub idle_spec : {M : Type 1} → statement M
 idle_spec =

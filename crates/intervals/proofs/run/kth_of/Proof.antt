@@ -17,5 +17,5 @@ returns c =
     let scored : length t.scores ≡ 100 = sym (length-map t.scores (λ v. v)) ∙ st.well-formed.0.1.1.1.0.1.0.1 in
     c.kth-in.ensures ∙ sym (kth-rows st.args.k t.n t.docids t.scores (docids ∙ sym scored))
 
-pub kth-of-spec : {M : Type 1} → statement M
-kth-of-spec = tie.close (tie.spec kth-in-requires returns)
+pub kth_of_spec : {M : Type 1} → statement M
+kth_of_spec = tie.close (tie.spec kth-in-requires returns)

@@ -23,6 +23,6 @@ returns c = rw (lt-ltb _ _ c.before.if1.true)
 returns-2 : tie.Need-returns-2
 returns-2 c = rw (le-ltb _ _ c.if1.false)
 
-pub last-of-spec : {M : Type 1} → statement M
-last-of-spec =
+pub last_of_spec : {M : Type 1} → statement M
+last_of_spec =
     tie.close (tie.spec add-next mul-result shared-slice-read-result sub-result returns returns-2)

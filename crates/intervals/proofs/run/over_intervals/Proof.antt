@@ -5,19 +5,19 @@ use mathlib.Core.Bool.{true}
 use native.Mathlib.Omega.{arith}
 use borrow.Author.Rules.{rules}
 use lib.ListN.{length, get_or, length-set}
-use Rattle.model.specs.Limits.{maxDocid}
-use Rattle.rank.specs.Match.{anyList}
-use Rattle.rank.specs.Keep.{keptOf}
+use Rattle.model.specs.Limits.{max_docid}
+use Rattle.rank.specs.Match.{any_list}
+use Rattle.rank.specs.Keep.{kept_of}
 use Rattle.prune.specs.Search.{opens}
 use Rattle.prune.specs.Prune.{never, spans}
-use Rattle.opening.specs.Table.{blockIn, listsIn}
-use Rattle.intervals.proofs.Spans.{noSpan}
-use Rattle.intervals.proofs.Runnings.{Past, opens-few, skip-past, skip-long, kth-none, ceilings-long, past-none, past_skip, past-rebase, past-few, past_next, past-places, past-enters, past-opens, past_open, past_stop, past-done}
+use Rattle.opening.specs.Table.{block_in, lists_in}
+use Rattle.intervals.proofs.Spans.{no_span}
+use Rattle.intervals.proofs.Runnings.{Past, opens-few, skip_past, skip_long, kth-none, ceilings-long, past-none, past_skip, past_rebase, past-few, past_next, past-places, past_enters, past-opens, past_open, past_stop, past-done}
 use Rattle.intervals.proofs.run.over_intervals.Statement.{statement}
 use Rattle.intervals.proofs.run.over_intervals.Tie as tie
 
 abbrev invariant-loop : tie.invariant-loop
-invariant-loop shelf ends los his tops counts bodies weights k starts ceilings marks₀ n none docs₀ scores₀ ats₀ mets₀ heads₀ kept₀ opened₀ i₀ marks docs scores ats mets heads kept opened i = Past shelf ends los his tops counts bodies weights k starts marks₀ i kept opened heads docs scores ats mets marks × (i < length starts → opens k (keptOf kept) (get_or (spans anyList never maxDocid (listsIn (blockIn shelf los his tops counts bodies) ends weights)) i (noSpan maxDocid (listsIn (blockIn shelf los his tops counts bodies) ends weights))) ≡ true)
+invariant-loop shelf ends los his tops counts bodies weights k starts ceilings marks₀ n none docs₀ scores₀ ats₀ mets₀ heads₀ kept₀ opened₀ i₀ marks docs scores ats mets heads kept opened i = Past shelf ends los his tops counts bodies weights k starts marks₀ i kept opened heads docs scores ats mets marks × (i < length starts → opens k (kept_of kept) (get_or (spans any_list never max_docid (lists_in (block_in shelf los his tops counts bodies) ends weights)) i (no_span max_docid (lists_in (block_in shelf los his tops counts bodies) ends weights))) ≡ true)
 
 abbrev decreases-loop : tie.decreases-loop
 decreases-loop shelf ends los his tops counts bodies weights k starts ceilings marks₀ n none docs₀ scores₀ ats₀ mets₀ heads₀ kept₀ opened₀ i₀ marks docs scores ats mets heads kept opened i = length starts - i
@@ -43,7 +43,7 @@ loop-holds c =
     let z = c.before.before.before.before.new.ensures in
     let first = past-none _ _ _ _ _ _ _ _ _ _ _ _ ok _ _ _ _ _ _ z refl refl c.before.before.before.before.before.before.before.begin.ensures c.before.before.before.before.before.idle.ensures refl in
     let r = past_skip _ _ _ _ _ _ _ _ _ _ _ _ ok _ _ _ _ _ _ _ _ _ _ first _ _ _ (kth-none c.before.before.before.before.before.before.before.before.before.before.before.before.before.before.before.before.before.before.before.before.args.k c.before.before.before.before.new.result z) c.before.before.skip-shut.ensures in
-    (past-rebase _ _ _ _ _ _ _ _ _ _ _ _ ok _ _ _ _ _ _ _ _ _ _ r.0, r.1)
+    (past_rebase _ _ _ _ _ _ _ _ _ _ _ _ ok _ _ _ _ _ _ _ _ _ _ r.0, r.1)
 
 mul-first : tie.Need-overflow-mul-first invariant-loop decreases-loop
 mul-first c = omega (arith, c.loop-test.true, c.before.before.before.before.before.before.before.before.before.before.before.before.before.before.before.before.before.before.before.before.before.before.requires.few)
@@ -73,7 +73,7 @@ open-requires : tie.Need-open-requires invariant-loop decreases-loop
 open-requires c κs =
     let t = c.before.before.before.before.before.before.before.before.before.before.before.loop-test.true in
     let v = c.before.before.before.before.before.before.before.before.before.before.before.before.loop.invariant.0 in
-    (past-enters _ _ _ _ _ _ _ _ _ _ _ _ c.before.before.before.before.before.before.before.before.before.before.before.before.before.before.before.before.before.before.before.before.before.before.before.before.before.before.before.before.before.before.before.before.before.requires _ _ _ _ _ _ _ _ _ _ v t _ _ c.before.before.before.before.before.before.meet_all.ensures, past-opens _ _ _ _ _ _ _ _ _ _ _ _ c.before.before.before.before.before.before.before.before.before.before.before.before.before.before.before.before.before.before.before.before.before.before.before.before.before.before.before.before.before.before.before.before.before.requires _ _ _ _ _ _ _ _ _ _ v t _ _ c.before.before.before.before.before.before.meet_all.ensures _ c.before.before.before.before.before.before.before.before.before.last_of.ensures)
+    (past_enters _ _ _ _ _ _ _ _ _ _ _ _ c.before.before.before.before.before.before.before.before.before.before.before.before.before.before.before.before.before.before.before.before.before.before.before.before.before.before.before.before.before.before.before.before.before.requires _ _ _ _ _ _ _ _ _ _ v t _ _ c.before.before.before.before.before.before.meet_all.ensures, past-opens _ _ _ _ _ _ _ _ _ _ _ _ c.before.before.before.before.before.before.before.before.before.before.before.before.before.before.before.before.before.before.before.before.before.before.before.before.before.before.before.before.before.before.before.before.before.requires _ _ _ _ _ _ _ _ _ _ v t _ _ c.before.before.before.before.before.before.meet_all.ensures _ c.before.before.before.before.before.before.before.before.before.last_of.ensures)
 
 slice-write-marks : tie.Need-slice-write-marks invariant-loop decreases-loop
 slice-write-marks c =
@@ -94,14 +94,14 @@ new-requires-2 c κs = search rules
 same_length : tie.Need-same-length invariant-loop decreases-loop
 same_length c =
     let l = c.before.before.before.before.before.before.before.before.before.before.before.before.before.before.before.before.before.before.before.loop in
-    omega (arith, c.before.before.before.mark-all.auto.0, length-set l.marks l.i 2, l.invariant.0.same, skip-long _ _ _ _ _ _ _ c.before.before.before.before.before.before.before.before.before.before.before.before.before.before.before.before.before.before.before.before.before.before.skip-shut.ensures)
+    omega (arith, c.before.before.before.mark-all.auto.0, length-set l.marks l.i 2, l.invariant.0.same, skip_long _ _ _ _ _ _ _ c.before.before.before.before.before.before.before.before.before.before.before.before.before.before.before.before.before.before.before.before.before.before.skip-shut.ensures)
 
 returns : tie.Need-returns invariant-loop decreases-loop
 returns c =
     let ok = c.before.before.before.before.before.before.before.before.before.before.before.before.before.before.before.before.before.before.before.before.before.before.before.before.before.before.before.before.before.before.before.before.before.before.before.before.before.before.before.before.requires in
     let l = c.before.before.before.before.before.before.before.before.before.before.before.before.before.before.before.before.before.before.before.loop in
     let t = c.before.before.before.before.before.before.before.before.before.before.before.before.before.before.before.before.before.before.loop-test.true in
-    past_stop _ _ _ _ _ _ _ _ _ _ _ _ ok _ _ _ _ _ _ _ _ _ _ l.invariant.0 t _ _ c.before.before.before.before.before.before.before.before.before.before.before.before.before.meet_all.ensures (l.invariant.1 t) _ c.before.before.before.before.before.before.before.before.before.before.before.before.before.before.before.before.last_of.ensures _ _ _ c.before.before.before.before.before.before.«open».ensures _ _ _ c.new2.ensures c.before.before.before.before.before.if1.true (skip-past _ _ _ _ _ _ _ c.before.before.before.before.before.before.before.before.before.before.before.before.before.before.before.before.before.before.before.before.before.before.skip-shut.ensures) c.before.before.before.mark-all.ensures
+    past_stop _ _ _ _ _ _ _ _ _ _ _ _ ok _ _ _ _ _ _ _ _ _ _ l.invariant.0 t _ _ c.before.before.before.before.before.before.before.before.before.before.before.before.before.meet_all.ensures (l.invariant.1 t) _ c.before.before.before.before.before.before.before.before.before.before.before.before.before.before.before.before.last_of.ensures _ _ _ c.before.before.before.before.before.before.«open».ensures _ _ _ c.new2.ensures c.before.before.before.before.before.if1.true (skip_past _ _ _ _ _ _ _ c.before.before.before.before.before.before.before.before.before.before.before.before.before.before.before.before.before.before.before.before.before.before.skip-shut.ensures) c.before.before.before.mark-all.ensures
 
 add-opened : tie.Need-overflow-add-opened invariant-loop decreases-loop
 add-opened c =
@@ -136,13 +136,13 @@ loop-again c =
     past_skip _ _ _ _ _ _ _ _ _ _ _ _ ok _ _ _ _ _ _ _ _ _ _ o _ _ _ c.before.before.before.before.kth-of.ensures c.before.before.skip-shut2.ensures
 
 same-length-2 : tie.Need-same-length-2 invariant-loop decreases-loop
-same-length-2 c = omega (arith, c.before.loop.invariant.0.same, skip-long _ _ _ _ _ _ _ c.before.before.before.before.skip-shut.ensures)
+same-length-2 c = omega (arith, c.before.loop.invariant.0.same, skip_long _ _ _ _ _ _ _ c.before.before.before.before.skip-shut.ensures)
 
 returns-2 : tie.Need-returns-2 invariant-loop decreases-loop
-returns-2 c = past-done _ _ _ _ _ _ _ _ _ _ _ _ c.before.before.before.before.before.before.before.before.before.before.before.before.before.before.before.before.before.before.before.before.before.before.requires _ _ _ _ _ _ _ _ _ _ c.before.loop.invariant.0 _ c.loop-test.false (skip-past _ _ _ _ _ _ _ c.before.before.before.before.skip-shut.ensures)
+returns-2 c = past-done _ _ _ _ _ _ _ _ _ _ _ _ c.before.before.before.before.before.before.before.before.before.before.before.before.before.before.before.before.before.before.before.before.before.before.requires _ _ _ _ _ _ _ _ _ _ c.before.loop.invariant.0 _ c.loop-test.false (skip_past _ _ _ _ _ _ _ c.before.before.before.before.skip-shut.ensures)
 
-pub over-intervals-spec : {M : Type 1} → statement M
-over-intervals-spec =
+pub over_intervals_spec : {M : Type 1} → statement M
+over_intervals_spec =
     tie.close
     (tie.spec
     invariant-loop

@@ -53,9 +53,9 @@ use denote.Signature.{plain}
 use Rattle.rank.specs.declared.keep.Kept.{Kept}
 use Rattle.rank.specs.contracts.keep.Kept as K
 use Rattle.rank.proofs.keep.Kept.TheLaws as K'
-use Rattle.lent.specs.Rows.{withHits, hitAt, Counts}
+use Rattle.lent.specs.Rows.{with_hits, hit_at, Counts}
 use Rattle.lent.specs.declared.rows.Hit.{Hit}
-use Rattle.lent.proofs.Hits.{firstHits, first-with, one_more, held_rows, first-all}
+use Rattle.lent.proofs.Hits.{first_hits, first_with, one_more, held_rows, first-all}
 use Rattle.lent.specs.contracts.rows.Hit as T
 use Rattle.lent.proofs.rows.Hit.TheLaws as T'
 use Rattle.lent.specs.contracts.rows.hit_at as hit-at
@@ -72,8 +72,8 @@ use Rattle.lent.proofs.rows.fill.Statement as stated
 use Rattle.lent.proofs.rows.fill.Code as code
 use Rattle.lent.proofs.rows.fill.Code.Mir as mir'
 
-times-fits : {n l : ℕ} → l * 8 < 2 ^ 63 → n < l → n * 8 < 2 ^ 64
-times-fits room within = omega arith
+times_fits : {n l : ℕ} → l * 8 < 2 ^ 63 → n < l → n * 8 < 2 ^ 64
+times_fits room within = omega arith
 
 abbrev stayed : Stays (fill.ended).signature.params (fill.ended).kept
 stayed = (stay_slice (0 ∷ []) tt (plain (λ _. T.the_row)), (stay_none (λ _. K.the_row) yes, tt))
@@ -87,11 +87,11 @@ module _ {M : Type 1} {𝓤 : Ura M} (𝓛 : Logic 𝓤) (mem : Memory → SProp
   HowMany = triple_of 𝓛 held.signature (held.spec 𝓛 mem run)
 
   -- of a callee's `ensured`, the clause alone
-  said : (k : Kept) (i : ℕ) (r : Hit) → ent 𝓤 (ensured 𝓛 hit-at.ended (hit-at.clauses 𝓛 mem run) tt (k, (i, tt)) tt r) (fact 𝓤 (r ≡ hitAt k i))
-  said k i r = ex_e 𝓤 _ (λ ws. snd∗ 𝓤 (sem 𝓛 (lasts hit-at.ended tt (k, (i, tt)) ws)) (fact 𝓤 (r ≡ hitAt k i)))
+  said : (k : Kept) (i : ℕ) (r : Hit) → ent 𝓤 (ensured 𝓛 hit-at.ended (hit-at.clauses 𝓛 mem run) tt (k, (i, tt)) tt r) (fact 𝓤 (r ≡ hit_at k i))
+  said k i r = ex_e 𝓤 _ (λ ws. snd∗ 𝓤 (sem 𝓛 (lasts hit-at.ended tt (k, (i, tt)) ws)) (fact 𝓤 (r ≡ hit_at k i)))
 
-  said-held : (k : Kept) (m n : ℕ) → ent 𝓤 (ensured 𝓛 held.ended (held.clauses 𝓛 mem run) tt (k, (m, tt)) tt n) (fact 𝓤 (Counts k m n))
-  said-held k m n = ex_e 𝓤 _ (λ ws. snd∗ 𝓤 (sem 𝓛 (lasts held.ended tt (k, (m, tt)) ws)) (fact 𝓤 (Counts k m n)))
+  said_held : (k : Kept) (m n : ℕ) → ent 𝓤 (ensured 𝓛 held.ended (held.clauses 𝓛 mem run) tt (k, (m, tt)) tt n) (fact 𝓤 (Counts k m n))
+  said_held k m n = ex_e 𝓤 _ (λ ws. snd∗ 𝓤 (sem 𝓛 (lasts held.ended tt (k, (m, tt)) ws)) (fact 𝓤 (Counts k m n)))
 
 module _ {M : Type 1} {𝓤 : Ura M} (𝓛 : Logic 𝓤) (mem : Memory → SProp 𝓤) (run : Routine → Fun 𝓤) (κ : Lft) (q : Share) (b o : ℕ) (γ : GName) (ys : List Hit) (k : Kept) where
   open 𝓛 use {H}
@@ -124,10 +124,10 @@ module _ {M : Type 1} {𝓤 : Ura M} (𝓛 : Logic 𝓤) (mem : Memory → SProp
 
   -- the rows after i turns
   abbrev zs : ℕ → List Hit
-  zs i = withHits (firstHits k i) ys
+  zs i = with_hits (first_hits k i) ys
 
   all_there : (n : ℕ) → Counts k m n → length (zs n) ≡ m
-  all_there n h = first-with k m n h n ys (omega arith) refl
+  all_there n h = first_with k m n h n ys (omega arith) refl
 
   abbrev Post : Val → SProp 𝓤
   Post = (walk_of 𝓛 fill.ended stayed (fill.clauses 𝓛 mem run)).post (((κ, tt), (q, tt), tt, a, vals), tt)
@@ -135,7 +135,7 @@ module _ {M : Type 1} {𝓤 : Ura M} (𝓛 : Logic 𝓤) (mem : Memory → SProp
   exits : (n : ℕ) → Room R m → Counts k m n → Is K.the_row k (mach ∷ []) → ent 𝓤 (⋆ 𝓛 (‵ (fobs γ ((coded_holeys R).code (heres R (zs n)))) ∷ ‵ (fbor κ (Held R (length (zs n)) b o γ)) ∷ ‵ (flft κ q) ∷ [])) (Post vunit)
   exits n room h g =
       qed 𝓛 (‵ (fobs γ ((coded_holeys R).code (heres R (zs n)))) ∷ ‵ (fbor κ (Held R (length (zs n)) b o γ)) ∷ ‵ (flft κ q) ∷ []) ∵
-      suffices ! _ (ends_at 𝓛 fill.ended stayed (fill.clauses 𝓛 mem run) (((κ, tt), (q, tt), tt, a, vals), tt) vunit tt (zs n, (tt, tt)) (all_there n h, (tt, tt))) $ says ! (ap (λ hs. withHits hs ys) (first-all k m n h)) $
+      suffices ! _ (ends_at 𝓛 fill.ended stayed (fill.clauses 𝓛 mem run) (((κ, tt), (q, tt), tt, a, vals), tt) vunit tt (zs n, (tt, tt)) (all_there n h, (tt, tt))) $ says ! (ap (λ hs. with_hits hs ys) (first-all k m n h)) $
       nothing ! $ move ! (3 ∷ 0 ∷ []) $ join ! $ frame ! $
       fjoin ! $ pure_i ! (mut_slice_at R (x (zs n)) (s ∷ [])) (tt, (tt, tt)) (ap (λ (m : ℕ). slice_val (b, o) m ∷ []) (sym (all_there n h)), subst (Room R) (sym (all_there n h)) room) $ fjoin ! $
       nothing ! $ owned ! K.the_row (Is K.the_row) (LL.makes K.the_type K'.the_plain 𝓛) k _ g $ fjoin ! $ move ! (1 ∷ 0 ∷ []) $ fjoin ! $
@@ -145,8 +145,8 @@ module _ {M : Type 1} {𝓤 : Ura M} (𝓛 : Logic 𝓤) (mem : Memory → SProp
   abbrev to_held : (HowMany 𝓛 mem run).Ghost
   to_held = ((tt, tt, tt, (k, (m, tt)), (mach ∷ [], (vint w64 m ∷ [], tt))), tt)
 
-  goes-held : Is K.the_row k (mach ∷ []) → m < 2 ^ 64 → ent 𝓤 (sem 𝓛 ftrue) ((HowMany 𝓛 mem run).pre to_held)
-  goes-held g fits =
+  goes_held : Is K.the_row k (mach ∷ []) → m < 2 ^ 64 → ent 𝓤 (sem 𝓛 ftrue) ((HowMany 𝓛 mem run).pre to_held)
+  goes_held g fits =
       qed 𝓛 (‵ ftrue ∷ []) ∵ nothing ! $ owned ! usize (Is usize) (uint_Makes 𝓛 w64) m _ (refl, fits) $ fjoin ! $
       owned ! K.the_row (Is K.the_row) (LL.makes K.the_type K'.the_plain 𝓛) k _ g $ fjoin ! $ move ! (1 ∷ 0 ∷ []) $ join ! $ frame ! $ done !
 
@@ -154,8 +154,8 @@ module _ {M : Type 1} {𝓤 : Ura M} (𝓛 : Logic 𝓤) (mem : Memory → SProp
   abbrev to : ℕ → (HitAt 𝓛 mem run).Ghost
   to i = ((tt, tt, tt, (k, (i, tt)), (mach ∷ [], (vint w64 i ∷ [], tt))), tt)
 
-  goes-hit : Is K.the_row k (mach ∷ []) → (i : ℕ) → i < 100 → i < 2 ^ 64 → ent 𝓤 (sem 𝓛 ftrue) ((HitAt 𝓛 mem run).pre (to i))
-  goes-hit g i lt fits =
+  goes_hit : Is K.the_row k (mach ∷ []) → (i : ℕ) → i < 100 → i < 2 ^ 64 → ent 𝓤 (sem 𝓛 ftrue) ((HitAt 𝓛 mem run).pre (to i))
+  goes_hit g i lt fits =
       qed 𝓛 (‵ ftrue ∷ []) ∵ says ! lt $ frame ! $ nothing ! $ owned ! usize (Is usize) (uint_Makes 𝓛 w64) i _ (refl, fits) $ fjoin ! $
       owned ! K.the_row (Is K.the_row) (LL.makes K.the_type K'.the_plain 𝓛) k _ g $ fjoin ! $ done !
 
@@ -181,8 +181,8 @@ module _ {M : Type 1} {𝓤 : Ura M} (𝓛 : Logic 𝓤) (mem : Memory → SProp
       abbrev Nearer : Upto → Upto → Type 0
       Nearer j i = n - j.0 < n - i.0
 
-      Nearer-wf : WellFounded Nearer
-      Nearer-wf = InvImage.wf (λ (i : Upto). n - i.0) lt-wf_rel.wf
+      Nearer_wf : WellFounded Nearer
+      Nearer_wf = InvImage.wf (λ (i : Upto). n - i.0) lt-wf_rel.wf
 
       module _ (l₀ l₁ l₂ l₃ l₄ l₅ l₆ l₇ l₈ l₉ : ℕ) where
         abbrev En : Env 𝓤 H
@@ -205,13 +205,13 @@ module _ {M : Type 1} {𝓤 : Ura M} (𝓛 : Logic 𝓤) (mem : Memory → SProp
             assigns ! (bin ! (load ! (from ! (stop !)) (look ! 10 refl)) (load ! (from ! (stop !)) (look ! 12 refl)) tt) (from ! (stop !)) (init ! 6 refl (tt, tt)) $
             rewrite ! 6 (λ (t : Bool). ‵ (fat full_share ty_bool l₆ 0 (vbool t))) e refl $ stays ! (load ! (from ! (stop !)) (look ! 6 refl)) $
             -- `hit_at`
-            nothing ! $ use1 𝓛 (raw ((HitAt 𝓛 mem run).pre (to i.0))) (goes-hit g i.0 (lt_of_lt_of_le less h.most) fits) $
+            nothing ! $ use1 𝓛 (raw ((HitAt 𝓛 mem run).pre (to i.0))) (goes_hit g i.0 (lt_of_lt_of_le less h.most) fits) $
             calls_at ! (fm_of 𝓤 H 𝓛.laws 𝓣) (HitAt 𝓛 mem run) known-hit (to i.0) (and_then ! (load ! (from ! (stop !)) (look ! 15 refl)) (and_then ! (load ! (from ! (stop !)) (look ! 11 refl)) (no_more !))) (λ v.
             use1 𝓛 (later (some (λ (r : Hit). (‵ ftrue ⊛ ‵ (R.own r (v ∷ []))) ⊛ raw (ensured 𝓛 hit-at.ended (hit-at.clauses 𝓛 mem run) tt (k, (i.0, tt)) tt r)))) (id⊢ 𝓤 _) $ await ! tt $ pick ! (λ r.
-            split ! $ move ! (1 ∷ []) $ use1 𝓛 (raw (fact 𝓤 (r ≡ hitAt k i.0))) (said 𝓛 mem run k i.0 r) $ heard ! (r ≡ hitAt k i.0) (λ is. split ! $ let_go ! $
+            split ! $ move ! (1 ∷ []) $ use1 𝓛 (raw (fact 𝓤 (r ≡ hit_at k i.0))) (said 𝓛 mem run k i.0 r) $ heard ! (r ≡ hit_at k i.0) (λ is. split ! $ let_go ! $
             peeks ! R (Is R) (shows 𝓛 R) r (v ∷ []) (λ gr. land ! (from ! (stop !)) (init ! 5 refl ((LL.lawful T.the_type T'.the_laws 𝓛).typed r _ gr).0) $
             -- [what the hit owns; the invariant's items]
-            assigns ! (bin ! (load ! (from ! (stop !)) (look ! 11 refl)) (lit ! tt) (record { fits = times-fits room.1 within })) (from ! (stop !)) (init ! 3 refl (tt, record { fits = times-fits room.1 within })) $
+            assigns ! (bin ! (load ! (from ! (stop !)) (look ! 11 refl)) (lit ! tt) (record { fits = times_fits room.1 within })) (from ! (stop !)) (init ! 3 refl (tt, record { fits = times_fits room.1 within })) $
             assigns ! (bin ! (load ! (from ! (fld ! refl (stop !))) (look_in ! 17 (sub ! 0 refl (whole !)))) (load ! (from ! (stop !)) (look ! 3 refl)) tt) (from ! (stop !)) (init ! 1 refl (tt, tt)) $
             rewrite ! 1 (λ (p : ℕ). ‵ (fat full_share ty_ptr l₉ 0 (vptr b p))) (sym (place_is 8 o i.0)) refl $
             move ! (21 ∷ []) $ elem_out ! R (Is R) (shows 𝓛 R) (LL.vals T.the_type T'.the_laws) (LL.tells T.the_type T'.the_laws) full_share (zs i.0) i.0 r b o inside (λ _.
@@ -231,7 +231,7 @@ module _ {M : Type 1} {𝓤 : Ura M} (𝓛 : Logic 𝓤) (mem : Memory → SProp
             within = lt_of_lt_of_le less (held_rows k m n h)
 
             inside : i.0 < length (zs i.0)
-            inside = subst (λ (j : ℕ). i.0 < j) (sym (first-with k m n h i.0 ys i.1 refl)) within
+            inside = subst (λ (j : ℕ). i.0 < j) (sym (first_with k m n h i.0 ys i.1 refl)) within
 
             fits : i.0 < 2 ^ 64
             fits = omega (arith, less, h.most)
@@ -260,7 +260,7 @@ module _ {M : Type 1} {𝓤 : Ura M} (𝓛 : Logic 𝓤) (mem : Memory → SProp
         turns i = turn_by i (ltb i.0 n) refl
 
         looped : Sq 𝓛 (At (0, zero-le)) (runs C Λ En mir'.t-4 (at_ret En Post))
-        looped = first ! $ blocks ! $ loops ! 𝓣 Nearer Nearer-wf At turns (0, zero-le)
+        looped = first ! $ blocks ! $ loops ! 𝓣 Nearer Nearer_wf At turns (0, zero-le)
 
     walk : Triple 𝓤 (C #held) (HowMany 𝓛 mem run) → Holds (has_ty K'.mir mach) × WT mach → ent 𝓤 (on_entry 𝓛 fill.signature (κ, tt) (q, tt) a vals) (WpFn 𝓤 H C Λ code.function (s ∷ mach ∷ []) Post)
     walk known-held wt =
@@ -270,10 +270,10 @@ module _ {M : Type 1} {𝓤 : Ura M} (𝓛 : Logic 𝓤) (mem : Memory → SProp
         -- [_9; …; _0; …; the token; what rows and k own]
         assigns ! (of_opd ! (load ! (from ! (fld ! refl (stop !))) (look_in ! 16 (sub ! 1 refl (whole !))))) (from ! (stop !)) (init ! 8 refl (tt, record { fits = room.0 })) $
         -- `held`
-        nothing ! $ use1 𝓛 (raw ((HowMany 𝓛 mem run).pre to_held)) (goes-held g room.0) $
+        nothing ! $ use1 𝓛 (raw ((HowMany 𝓛 mem run).pre to_held)) (goes_held g room.0) $
         calls_at ! (fm_of 𝓤 H 𝓛.laws 𝓣) (HowMany 𝓛 mem run) known-held to_held (and_then ! (load ! (from ! (stop !)) (look ! 15 refl)) (and_then ! (load ! (from ! (stop !)) (look ! 9 refl)) (no_more !))) (λ u.
         use1 𝓛 (later (some (λ (n : ℕ). (‵ ftrue ⊛ ‵ (usize.own_val n (u ∷ []))) ⊛ raw (ensured 𝓛 held.ended (held.clauses 𝓛 mem run) tt (k, (m, tt)) tt n)))) (id⊢ 𝓤 _) $ await ! tt $ pick ! (λ n.
-        split ! $ move ! (1 ∷ []) $ use1 𝓛 (raw (fact 𝓤 (Counts k m n))) (said-held 𝓛 mem run k m n) $ heard ! (Counts k m n) (λ h. split ! $ let_go ! $
+        split ! $ move ! (1 ∷ []) $ use1 𝓛 (raw (fact 𝓤 (Counts k m n))) (said_held 𝓛 mem run k m n) $ heard ! (Counts k m n) (λ h. split ! $ let_go ! $
         peeks ! usize (Is usize) (shows 𝓛 usize) n (u ∷ []) (λ is. land ! (from ! (stop !)) (init ! 13 refl ((uint_Lawful 𝓛 w64).typed n _ is).0) $ let_go ! $
         rewrite ! 12 (λ (z : Val). ‵ (fat full_share word l₃ 0 z)) (ap only is.0) refl $
         assigns ! (of_opd ! (lit ! tt)) (from ! (stop !)) (init ! 10 refl (tt, record { fits = lit< tt })) $

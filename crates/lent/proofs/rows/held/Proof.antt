@@ -5,7 +5,7 @@ use mathlib.Core.Path.{◌≡◌}
 use mathlib.Core.Logic.{⊎_elim}
 use Prim.Native.Nat.{min}
 use lib.ListN.{length}
-use Rattle.lent.proofs.Hits.{held-as}
+use Rattle.lent.proofs.Hits.{held_as}
 use Rattle.lent.proofs.rows.held.Statement.{statement}
 use Rattle.lent.proofs.rows.held.Tie as tie
 
@@ -15,7 +15,7 @@ returns c =
     let a : length g.kept.docids ≡ 100 = search rules in
     let b : length g.kept.scores ≡ 100 = search rules in
     let k : c.before.if1.n ≡ min g.kept.n 100 = ⊎_elim (λ w. omega arith) (λ w. omega arith) c.before.if1.branch in
-    held-as g.kept g.room c.before.if1.n g.room a b k (omega (arith, c.if2.true))
+    held_as g.kept g.room c.before.if1.n g.room a b k (omega (arith, c.if2.true))
 
 returns-2 : tie.Need-returns-2
 returns-2 c =
@@ -23,7 +23,7 @@ returns-2 c =
     let a : length g.kept.docids ≡ 100 = search rules in
     let b : length g.kept.scores ≡ 100 = search rules in
     let k : c.before.if1.n ≡ min g.kept.n 100 = ⊎_elim (λ w. omega arith) (λ w. omega arith) c.before.if1.branch in
-    held-as g.kept g.room c.before.if1.n c.before.if1.n a b k (omega (arith, c.if2.false))
+    held_as g.kept g.room c.before.if1.n c.before.if1.n a b k (omega (arith, c.if2.false))
 
 pub held_spec : {M : Type 1} → statement M
 held_spec = tie.close (tie.spec returns returns-2)

@@ -22,7 +22,7 @@ returns c =
     let k = c.before.before.before.before.rank-all.ensures in
     tells _ _ _ _ _ _ _ k.answer k.cleared (rank-within _ _ _) c.before.before.number_of_lem.ensures c.before.offset-of.ensures c.held.ensures
 
-pub rank-spec : {M : Type 1} → statement M
-rank-spec =
+pub rank_spec : {M : Type 1} → statement M
+rank_spec =
     tie.close
     (tie.spec rank-all-requires number-of-requires offset-of-requires held-requires returns)

@@ -36,8 +36,8 @@ returns c =
       record { intervals = k.intervals; opened = k.opened; blocks = k.blocks; firsts = k.firsts; ceilings = k.ceilings; marks = k.marks },
     )
 
-pub seek-spec : {M : Type 1} → statement M
-seek-spec =
+pub seek_spec : {M : Type 1} → statement M
+seek_spec =
     tie.close
     (tie.spec
     search-requires

@@ -37,11 +37,11 @@ use denote.Triple.Table.{entered, cited}
 use denote.Triple.Walked.{says, Stays, stay_none_slice, gave_slice, walk_of, Goes-none_slice, Goes-gave_slice, Walks, ends_at, walked, walk_Meets}
 use denote.Exit.{yes}
 use denote.Triple.Clauses.{ensured, lasts}
-use Rattle.rank.specs.Keep.{keptOf}
+use Rattle.rank.specs.Keep.{kept_of}
 use Rattle.rank.specs.contracts.keep.Kept as K
 use Rattle.rank.proofs.keep.Kept.TheLaws as K'
-use Rattle.exhaustive.specs.Exhaustive.{rankAll}
-use Rattle.lent.specs.Rows.{withHits, Tells}
+use Rattle.exhaustive.specs.Exhaustive.{rank_all}
+use Rattle.lent.specs.Rows.{with_hits, Tells}
 use Rattle.lent.specs.declared.rows.Hit.{Hit}
 use Rattle.lent.specs.declared.rows.RankedRows.{RankedRows}
 use Rattle.lent.specs.declared.rows.Ranking.{Ranking}
@@ -105,36 +105,36 @@ module _ {M : Type 1} {𝓤 : Ura M} (𝓛 : Logic 𝓤) (mem : Memory → SProp
   abbrev ArgRank : Type 0
   ArgRank = Bor (List ℕ) × (Bor (List ℕ) × (ℕ × Unit {0}))
 
-  abbrev a-rank : ArgRank
-  a-rank = (qu, (sh, (m, tt)))
+  abbrev a_rank : ArgRank
+  a_rank = (qu, (sh, (m, tt)))
 
-  abbrev vals-rank : List Val × (List Val × (List Val × Unit {0}))
-  vals-rank = (slice-val qu ∷ [], (slice-val sh ∷ [], (vint w64 m ∷ [], tt)))
+  abbrev vals_rank : List Val × (List Val × (List Val × Unit {0}))
+  vals_rank = (slice-val qu ∷ [], (slice-val sh ∷ [], (vint w64 m ∷ [], tt)))
 
-  abbrev to-rank : (Rank 𝓛 mem run).Ghost
-  to-rank = (((κ, tt), (q, tt), tt, a-rank, vals-rank), tt)
+  abbrev to_rank : (Rank 𝓛 mem run).Ghost
+  to_rank = (((κ, tt), (q, tt), tt, a_rank, vals_rank), tt)
 
-  asked-rank : ent 𝓤 (⋆ 𝓛 ((‵ (flft κ q) ⊛ ‵ ftrue) ∷ ‵ (owns (Bytes ∷ Bytes ∷ usize ∷ []) a-rank vals-rank) ∷ [])) ((Rank 𝓛 mem run).pre to-rank)
-  asked-rank = qed 𝓛 ((‵ (flft κ q) ⊛ ‵ ftrue) ∷ ‵ (owns (Bytes ∷ Bytes ∷ usize ∷ []) a-rank vals-rank) ∷ []) ∵ join ! $ frame ! $ done !
+  asked-rank : ent 𝓤 (⋆ 𝓛 ((‵ (flft κ q) ⊛ ‵ ftrue) ∷ ‵ (owns (Bytes ∷ Bytes ∷ usize ∷ []) a_rank vals_rank) ∷ [])) ((Rank 𝓛 mem run).pre to_rank)
+  asked-rank = qed 𝓛 ((‵ (flft κ q) ⊛ ‵ ftrue) ∷ ‵ (owns (Bytes ∷ Bytes ∷ usize ∷ []) a_rank vals_rank) ∷ []) ∵ join ! $ frame ! $ done !
 
   abbrev Told : Ranking → Type 0
-  Told r = Tells (rankAll qu.now sh.now m) m r.answer.number r.answer.offset r.answer.hits r.kept
+  Told r = Tells (rank_all qu.now sh.now m) m r.answer.number r.answer.offset r.answer.hits r.kept
 
-  told : (r : Ranking) → ent 𝓤 (ensured 𝓛 rank.ended (rank.clauses 𝓛 mem run) (κ, tt) a-rank tt r) (fact 𝓤 (Told r))
-  told r = ex_e 𝓤 _ (λ ws. snd∗ 𝓤 (sem 𝓛 (lasts rank.ended (κ, tt) a-rank ws)) (fact 𝓤 (Told r)))
+  told : (r : Ranking) → ent 𝓤 (ensured 𝓛 rank.ended (rank.clauses 𝓛 mem run) (κ, tt) a_rank tt r) (fact 𝓤 (Told r))
+  told r = ex_e 𝓤 _ (λ ws. snd∗ 𝓤 (sem 𝓛 (lasts rank.ended (κ, tt) a_rank ws)) (fact 𝓤 (Told r)))
 
-  abbrev answer-val : RankedRows → Val
-  answer-val n = LL.tuple_val N.the_type N'.the_laws ((N.the_type).to n)
+  abbrev answer_val : RankedRows → Val
+  answer_val n = LL.tuple_val N.the_type N'.the_laws ((N.the_type).to n)
 
   -- what `fill` says of the rows that it leaves
   abbrev Written : Ranking → List Hit → Type 0
-  Written r zs = zs ≡ withHits (take m (keptOf r.kept)) rows.now
+  Written r zs = zs ≡ with_hits (take m (kept_of r.kept)) rows.now
 
-  exits : (r : Ranking) (zs : List Hit) → Is N.the_row r.answer (answer-val r.answer ∷ []) → length zs ≡ m → Told r → Written r zs
-      → ent 𝓤 (⋆ 𝓛 ((‵ (flft κ q) ⊛ ‵ ftrue) ∷ ‵ (finally T.the_row rows.name zs) ∷ ‵ Shelf ∷ ‵ Query ∷ [])) (Post (answer-val r.answer))
+  exits : (r : Ranking) (zs : List Hit) → Is N.the_row r.answer (answer_val r.answer ∷ []) → length zs ≡ m → Told r → Written r zs
+      → ent 𝓤 (⋆ 𝓛 ((‵ (flft κ q) ⊛ ‵ ftrue) ∷ ‵ (finally T.the_row rows.name zs) ∷ ‵ Shelf ∷ ‵ Query ∷ [])) (Post (answer_val r.answer))
   exits r zs is l e z =
       qed 𝓛 ((‵ (flft κ q) ⊛ ‵ ftrue) ∷ ‵ (finally T.the_row rows.name zs) ∷ ‵ Shelf ∷ ‵ Query ∷ []) ∵
-      suffices ! _ (ends_at 𝓛 f.ended stayed (f.clauses 𝓛 mem run) (((κ, tt), (q, tt), tt, a, vals), tt) (answer-val r.answer) r.answer (tt, (tt, (zs, tt))) (tt, (tt, (l, tt)))) $
+      suffices ! _ (ends_at 𝓛 f.ended stayed (f.clauses 𝓛 mem run) (((κ, tt), (q, tt), tt, a, vals), tt) (answer_val r.answer) r.answer (tt, (tt, (zs, tt))) (tt, (tt, (l, tt)))) $
       says ! (rowed _ _ _ _ r.kept rows.now zs e z) $ frame ! $
       nothing ! $ move ! (1 ∷ 0 ∷ []) $ fjoin ! $ move ! (1 ∷ 0 ∷ []) $ fjoin ! $ move ! (1 ∷ 0 ∷ []) $ fjoin ! $
       owned ! N.the_row (Is N.the_row) (LL.makes N.the_type N'.the_plain 𝓛) r.answer _ is $ move ! (1 ∷ 0 ∷ []) $ done !
@@ -153,9 +153,9 @@ module _ {M : Type 1} {𝓤 : Ura M} (𝓛 : Logic 𝓤) (mem : Memory → SProp
         -- [rows; true; shelf; shelf; query; query; _9; …; the token]: what `rank` is passed is put together
         move ! (1 ∷ []) $ owned ! usize (Is usize) (uint_Makes 𝓛 w64) m _ (refl, room-r.0) $ fjoin ! $ move ! (2 ∷ 0 ∷ []) $ fjoin ! $ move ! (3 ∷ 0 ∷ []) $ fjoin ! $
         -- [what `rank` is passed; rows; shelf; query; _9; …; the token]
-        move ! (24 ∷ 0 ∷ []) $ use2 𝓛 (raw ((Rank 𝓛 mem run).pre to-rank)) asked-rank $
-        calls_at ! fm (Rank 𝓛 mem run) known-rank to-rank (and_then ! (load ! (from ! (stop !)) (look ! 20 refl)) (and_then ! (load ! (from ! (stop !)) (look ! 18 refl)) (and_then ! (load ! (from ! (stop !)) (look ! 10 refl)) (no_more !)))) (λ u.
-        use1 𝓛 (later (some (λ (r : Ranking). ((‵ (flft κ q) ⊛ ‵ ftrue) ⊛ ‵ ((O.the_row).own_val r (u ∷ []))) ⊛ raw (ensured 𝓛 rank.ended (rank.clauses 𝓛 mem run) (κ, tt) a-rank tt r)))) (id⊢ 𝓤 _) $ await ! tt $ pick ! (λ r.
+        move ! (24 ∷ 0 ∷ []) $ use2 𝓛 (raw ((Rank 𝓛 mem run).pre to_rank)) asked-rank $
+        calls_at ! fm (Rank 𝓛 mem run) known-rank to_rank (and_then ! (load ! (from ! (stop !)) (look ! 20 refl)) (and_then ! (load ! (from ! (stop !)) (look ! 18 refl)) (and_then ! (load ! (from ! (stop !)) (look ! 10 refl)) (no_more !)))) (λ u.
+        use1 𝓛 (later (some (λ (r : Ranking). ((‵ (flft κ q) ⊛ ‵ ftrue) ⊛ ‵ ((O.the_row).own_val r (u ∷ []))) ⊛ raw (ensured 𝓛 rank.ended (rank.clauses 𝓛 mem run) (κ, tt) a_rank tt r)))) (id⊢ 𝓤 _) $ await ! tt $ pick ! (λ r.
         split ! $ move ! (1 ∷ []) $ use1 𝓛 (raw (fact 𝓤 (Told r))) (told r) $ heard ! (Told r) (λ e. split ! $ move ! (1 ∷ []) $
         -- [the result; the token; rows; shelf; query; _9; …]
         peeks ! O.the_row (Is O.the_row) (shows 𝓛 O.the_row) r (u ∷ []) (λ is.
@@ -195,9 +195,9 @@ module _ {M : Type 1} {𝓤 : Ura M} (𝓛 : Logic 𝓤) (mem : Memory → SProp
       walk_Meets 𝓛 f.ended stayed (Goes-none_slice 𝓛 1 (0 ∷ []) tt (plain (λ _. u8)) yes, (Goes-none_slice 𝓛 1 (0 ∷ []) tt (plain (λ _. u8)) yes, (Goes-gave_slice 𝓛 1 0 tt (plain (λ _. T.the_row)), tt))) (f.clauses 𝓛 mem run)
       (WpFn 𝓤 H 𝓣.C 𝓣.Λ code.function) (WpFn-mono 𝓤 H 𝓛.laws 𝓣 code.function) walks
 
-pub tagmurlen-rank-rows-spec : {M : Type 1} → stated.statement M
+pub tagmurlen_rank_rows_spec : {M : Type 1} → stated.statement M
 unfolding code.routine tables_of
-tagmurlen-rank-rows-spec 𝓤 𝓛 𝓜 𝓡 =
+tagmurlen_rank_rows_spec 𝓤 𝓛 𝓜 𝓡 =
     entered 𝓤 𝓛.H (triple_of 𝓛 f.signature (f.spec 𝓛 𝓜.mem 𝓡.run))
     (tables 𝓤 𝓛.H 𝓜 𝓡 code.env).C (tables 𝓤 𝓛.H 𝓜 𝓡 code.env).Λ #rank-rows code.function (code.unfolded 𝓤 𝓛.H 𝓜 𝓡)
     (meets 𝓛 𝓜.mem 𝓡.run (tables_of 𝓤 𝓛.H 𝓜 (tables 𝓤 𝓛.H 𝓜 𝓡 code.env))

@@ -37,11 +37,11 @@ use denote.Triple.Table.{entered, cited}
 use denote.Triple.Walked.{says, Stays, stay_none_slice, gave_slice, walk_of, Goes-none_slice, Goes-gave_slice, Walks, ends_at, walked, walk_Meets}
 use denote.Exit.{yes}
 use denote.Triple.Clauses.{ensured, lasts}
-use Rattle.rank.specs.Keep.{keptOf}
+use Rattle.rank.specs.Keep.{kept_of}
 use Rattle.rank.specs.contracts.keep.Kept as K
 use Rattle.rank.proofs.keep.Kept.TheLaws as K'
 use Rattle.pruned.specs.Pruned.{Answer, searched}
-use Rattle.lent.specs.Rows.{withHits, Tells}
+use Rattle.lent.specs.Rows.{with_hits, Tells}
 use Rattle.lent.specs.Search.{Booked}
 use Rattle.lent.specs.declared.rows.Hit.{Hit}
 use Rattle.lent.specs.declared.rows.SearchedRows.{SearchedRows}
@@ -125,19 +125,19 @@ module _ {M : Type 1} {𝓤 : Ura M} (𝓛 : Logic 𝓤) (mem : Memory → SProp
   abbrev ArgSeek : Type 0
   ArgSeek = Bor (List ℕ) × (Bor (List ℕ) × (ℕ × (Bor (List ℕ) × (Bor (List ℕ) × (Bor (List ℕ) × Unit {0})))))
 
-  abbrev a-seek : ArgSeek
-  a-seek = (qu, (sh, (m, (fs, (cs, (ms, tt))))))
+  abbrev a_seek : ArgSeek
+  a_seek = (qu, (sh, (m, (fs, (cs, (ms, tt))))))
 
-  abbrev vals-seek : Vals
-  vals-seek = (slice-val qu ∷ [], (slice-val sh ∷ [], (vint w64 m ∷ [], (slice-val fs ∷ [], (slice-val cs ∷ [], (slice-val ms ∷ [], tt))))))
+  abbrev vals_seek : Vals
+  vals_seek = (slice-val qu ∷ [], (slice-val sh ∷ [], (vint w64 m ∷ [], (slice-val fs ∷ [], (slice-val cs ∷ [], (slice-val ms ∷ [], tt))))))
 
-  abbrev to-seek : (Seek 𝓛 mem run).Ghost
-  to-seek = (((κ, tt), (q, tt), tt, a-seek, vals-seek), tt)
+  abbrev to_seek : (Seek 𝓛 mem run).Ghost
+  to_seek = (((κ, tt), (q, tt), tt, a_seek, vals_seek), tt)
 
   abbrev Passed : Fml
-  Passed = owns (Bytes ∷ Bytes ∷ usize ∷ MutSlice (named 0) κ u32 ∷ MutSlice (named 0) κ u32 ∷ MutSlice (named 0) κ u8 ∷ []) a-seek vals-seek
+  Passed = owns (Bytes ∷ Bytes ∷ usize ∷ MutSlice (named 0) κ u32 ∷ MutSlice (named 0) κ u32 ∷ MutSlice (named 0) κ u8 ∷ []) a_seek vals_seek
 
-  asked-seek : ent 𝓤 (⋆ 𝓛 ((‵ (flft κ q) ⊛ ‵ ftrue) ∷ ‵ Passed ∷ [])) ((Seek 𝓛 mem run).pre to-seek)
+  asked-seek : ent 𝓤 (⋆ 𝓛 ((‵ (flft κ q) ⊛ ‵ ftrue) ∷ ‵ Passed ∷ [])) ((Seek 𝓛 mem run).pre to_seek)
   asked-seek = qed 𝓛 ((‵ (flft κ q) ⊛ ‵ ftrue) ∷ ‵ Passed ∷ []) ∵ join ! $ frame ! $ done !
 
   abbrev LastSeek : Type 0
@@ -147,19 +147,19 @@ module _ {M : Type 1} {𝓤 : Ura M} (𝓛 : Logic 𝓤) (mem : Memory → SProp
   abbrev Told : Searching → (fz cz mz : List ℕ) → Type 0
   Told r fz cz mz = Tells found.outcome m r.answer.number r.answer.offset r.answer.hits r.kept × Booked found fz cz mz r.answer
 
-  abbrev answer-val : SearchedRows → Val
-  answer-val n = LL.tuple_val N.the_type N'.the_laws ((N.the_type).to n)
+  abbrev answer_val : SearchedRows → Val
+  answer_val n = LL.tuple_val N.the_type N'.the_laws ((N.the_type).to n)
 
   -- what `fill` says of the rows that it leaves
   abbrev Written : Searching → List Hit → Type 0
-  Written r zs = zs ≡ withHits (take m (keptOf r.kept)) rows.now
+  Written r zs = zs ≡ with_hits (take m (kept_of r.kept)) rows.now
 
-  exits : (r : Searching) (zs : List Hit) (fz cz mz : List ℕ) → Is N.the_row r.answer (answer-val r.answer ∷ []) → length zs ≡ m → length fz ≡ length fs.now → length cz ≡ length cs.now → length mz ≡ length ms.now
+  exits : (r : Searching) (zs : List Hit) (fz cz mz : List ℕ) → Is N.the_row r.answer (answer_val r.answer ∷ []) → length zs ≡ m → length fz ≡ length fs.now → length cz ≡ length cs.now → length mz ≡ length ms.now
       → Told r fz cz mz → Written r zs
-      → ent 𝓤 (⋆ 𝓛 ((‵ (flft κ q) ⊛ ‵ ftrue) ∷ ‵ (finally T.the_row rows.name zs) ∷ ‵ (finally u32 fs.name fz) ∷ ‵ (finally u32 cs.name cz) ∷ ‵ (finally u8 ms.name mz) ∷ ‵ Shelf ∷ ‵ Query ∷ [])) (Post (answer-val r.answer))
+      → ent 𝓤 (⋆ 𝓛 ((‵ (flft κ q) ⊛ ‵ ftrue) ∷ ‵ (finally T.the_row rows.name zs) ∷ ‵ (finally u32 fs.name fz) ∷ ‵ (finally u32 cs.name cz) ∷ ‵ (finally u8 ms.name mz) ∷ ‵ Shelf ∷ ‵ Query ∷ [])) (Post (answer_val r.answer))
   exits r zs fz cz mz is lr lf lc lm e z =
       qed 𝓛 ((‵ (flft κ q) ⊛ ‵ ftrue) ∷ ‵ (finally T.the_row rows.name zs) ∷ ‵ (finally u32 fs.name fz) ∷ ‵ (finally u32 cs.name cz) ∷ ‵ (finally u8 ms.name mz) ∷ ‵ Shelf ∷ ‵ Query ∷ []) ∵
-      suffices ! _ (ends_at 𝓛 f.ended stayed (f.clauses 𝓛 mem run) (((κ, tt), (q, tt), tt, a, vals), tt) (answer-val r.answer) r.answer (tt, (tt, (zs, (fz, (cz, (mz, tt)))))) (tt, (tt, (lr, (lf, (lc, (lm, tt))))))) $
+      suffices ! _ (ends_at 𝓛 f.ended stayed (f.clauses 𝓛 mem run) (((κ, tt), (q, tt), tt, a, vals), tt) (answer_val r.answer) r.answer (tt, (tt, (zs, (fz, (cz, (mz, tt)))))) (tt, (tt, (lr, (lf, (lc, (lm, tt))))))) $
       says ! (record { rowed = rowed found.outcome _ _ _ r.kept rows.now zs e.0 z; booked = e.1 }) $ frame ! $
       nothing ! $ move ! (4 ∷ 0 ∷ []) $ fjoin ! $ move ! (3 ∷ 0 ∷ []) $ fjoin ! $ move ! (2 ∷ 0 ∷ []) $ fjoin ! $ move ! (1 ∷ 0 ∷ []) $ fjoin ! $ move ! (1 ∷ 0 ∷ []) $ fjoin ! $ move ! (1 ∷ 0 ∷ []) $ fjoin ! $
       owned ! N.the_row (Is N.the_row) (LL.makes N.the_type N'.the_plain 𝓛) r.answer _ is $ move ! (1 ∷ 0 ∷ []) $ done !
@@ -186,10 +186,10 @@ module _ {M : Type 1} {𝓤 : Ura M} (𝓛 : Logic 𝓤) (mem : Memory → SProp
         -- [marks; true; ceilings; firsts; rows; shelf; shelf; query; query; _18; …; the token]: what `seek` is passed is put together
         fjoin ! $ move ! (1 ∷ 0 ∷ []) $ fjoin ! $ move ! (1 ∷ 0 ∷ []) $ fjoin ! $ owned ! usize (Is usize) (uint_Makes 𝓛 w64) m _ (refl, room-r.0) $ fjoin ! $ move ! (2 ∷ 0 ∷ []) $ fjoin ! $ move ! (3 ∷ 0 ∷ []) $ fjoin ! $
         -- [what `seek` is passed; rows; shelf; query; _18; …; the token]
-        move ! (42 ∷ 0 ∷ []) $ use2 𝓛 (raw ((Seek 𝓛 mem run).pre to-seek)) asked-seek $
-        calls_at ! fm (Seek 𝓛 mem run) known-seek to-seek (and_then ! (load ! (from ! (stop !)) (look ! 38 refl)) (and_then ! (load ! (from ! (stop !)) (look ! 36 refl)) (and_then ! (load ! (from ! (stop !)) (look ! 22 refl)) (and_then ! (load ! (from ! (stop !)) (look ! 18 refl)) (and_then ! (load ! (from ! (stop !)) (look ! 14 refl)) (and_then ! (load ! (from ! (stop !)) (look ! 10 refl)) (no_more !))))))) (λ u.
-        use1 𝓛 (later (some (λ (r : Searching). ((‵ (flft κ q) ⊛ ‵ ftrue) ⊛ ‵ ((O.the_row).own_val r (u ∷ []))) ⊛ raw (ensured 𝓛 seek.ended (seek.clauses 𝓛 mem run) (κ, tt) a-seek tt r)))) (id⊢ 𝓤 _) $ await ! tt $ pick ! (λ r.
-        split ! $ move ! (1 ∷ []) $ use1 𝓛 (some (λ (ws : LastSeek). ‵ (lasts seek.ended (κ, tt) a-seek ws) ⊛ raw (fact 𝓤 (Told r ws.1.1.1.0 ws.1.1.1.1.0 ws.1.1.1.1.1.0)))) (id⊢ 𝓤 _) $ pick ! (λ ws.
+        move ! (42 ∷ 0 ∷ []) $ use2 𝓛 (raw ((Seek 𝓛 mem run).pre to_seek)) asked-seek $
+        calls_at ! fm (Seek 𝓛 mem run) known-seek to_seek (and_then ! (load ! (from ! (stop !)) (look ! 38 refl)) (and_then ! (load ! (from ! (stop !)) (look ! 36 refl)) (and_then ! (load ! (from ! (stop !)) (look ! 22 refl)) (and_then ! (load ! (from ! (stop !)) (look ! 18 refl)) (and_then ! (load ! (from ! (stop !)) (look ! 14 refl)) (and_then ! (load ! (from ! (stop !)) (look ! 10 refl)) (no_more !))))))) (λ u.
+        use1 𝓛 (later (some (λ (r : Searching). ((‵ (flft κ q) ⊛ ‵ ftrue) ⊛ ‵ ((O.the_row).own_val r (u ∷ []))) ⊛ raw (ensured 𝓛 seek.ended (seek.clauses 𝓛 mem run) (κ, tt) a_seek tt r)))) (id⊢ 𝓤 _) $ await ! tt $ pick ! (λ r.
+        split ! $ move ! (1 ∷ []) $ use1 𝓛 (some (λ (ws : LastSeek). ‵ (lasts seek.ended (κ, tt) a_seek ws) ⊛ raw (fact 𝓤 (Told r ws.1.1.1.0 ws.1.1.1.1.0 ws.1.1.1.1.1.0)))) (id⊢ 𝓤 _) $ pick ! (λ ws.
         split ! $ move ! (1 ∷ []) $ heard ! (Told r ws.1.1.1.0 ws.1.1.1.1.0 ws.1.1.1.1.1.0) (λ e. fsplit ! $ let_go ! $ fsplit ! $ let_go ! $ fsplit ! $ let_go ! $
         fsplit ! $ fsplit ! $ move ! (1 ∷ []) $ feq_l ! (λ lf. move ! (1 ∷ []) $ fsplit ! $ fsplit ! $ move ! (1 ∷ []) $ feq_l ! (λ lc. move ! (1 ∷ []) $ fsplit ! $ fsplit ! $ move ! (1 ∷ []) $ feq_l ! (λ lm.
         -- [marks' last list; true; ceilings' last; firsts' last; the token and the result; rows; shelf; query; _18; …]
@@ -242,9 +242,9 @@ module _ {M : Type 1} {𝓤 : Ura M} (𝓛 : Logic 𝓤) (mem : Memory → SProp
       ) (f.clauses 𝓛 mem run)
       (WpFn 𝓤 H 𝓣.C 𝓣.Λ code.function) (WpFn-mono 𝓤 H 𝓛.laws 𝓣 code.function) walks
 
-pub tagmurlen-search-rows-spec : {M : Type 1} → stated.statement M
+pub tagmurlen_search_rows_spec : {M : Type 1} → stated.statement M
 unfolding code.routine tables_of
-tagmurlen-search-rows-spec 𝓤 𝓛 𝓜 𝓡 =
+tagmurlen_search_rows_spec 𝓤 𝓛 𝓜 𝓡 =
     entered 𝓤 𝓛.H (triple_of 𝓛 f.signature (f.spec 𝓛 𝓜.mem 𝓡.run))
     (tables 𝓤 𝓛.H 𝓜 𝓡 code.env).C (tables 𝓤 𝓛.H 𝓜 𝓡 code.env).Λ #search-rows code.function (code.unfolded 𝓤 𝓛.H 𝓜 𝓡)
     (meets 𝓛 𝓜.mem 𝓡.run (tables_of 𝓤 𝓛.H 𝓜 (tables 𝓤 𝓛.H 𝓜 𝓡 code.env))

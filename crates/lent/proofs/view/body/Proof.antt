@@ -40,7 +40,7 @@ use denote.Triple.Table.{entered, cited}
 use denote.Triple.Walked.{says, Stays, stay_none, walk_of, Goes-none, Walks, ends_at, walked, walk_Meets}
 use denote.Exit.{yes}
 use denote.Triple.Clauses.{ensured, lasts}
-use Rattle.lookup.specs.Show.{bodyShown}
+use Rattle.lookup.specs.Show.{body_shown}
 use Rattle.lookup.specs.declared.find.Shown.{Shown}
 use Rattle.lookup.specs.declared.find.BodyShown.{BodyShown}
 use Rattle.lookup.specs.contracts.find.Shown as P
@@ -58,7 +58,7 @@ use Rattle.lent.proofs.view.ListView.TheLaws as T'
 use Rattle.lent.specs.contracts.view.BodyPart as D
 use Rattle.lent.proofs.view.BodyPart.TheLaws as D'
 use Rattle.lent.proofs.Parts.{body-inside}
-use Rattle.lent.proofs.Views.{B, view-val, slice-val, shelf-out, callee-ended, callee, Callee, to, asked, told}
+use Rattle.lent.proofs.Views.{B, view_val, slice-val, shelf-out, callee_ended, callee, Callee, to, asked, told}
 use Rattle.lent.specs.contracts.view.part as part
 use Rattle.lent.proofs.view.part.Symbol as part-def
 use Rattle.lent.proofs.view.part.Symbol.{name as #part}
@@ -73,7 +73,7 @@ abbrev ρ : Slot 1
 
 -- what the first covered function says of its result
 abbrev Said : Lfts 1 → List ℕ → Shown → ℕ → BodyShown → Type 0
-Said κs s p j b = b ≡ bodyShown s p j
+Said κs s p j b = b ≡ body_shown s p j
 
 abbrev stayed : Stays (f.ended).signature.params (f.ended).kept
 stayed = (stay_none B yes, (stay_none (λ _. usize) yes, tt))
@@ -90,7 +90,7 @@ module _ {M : Type 1} {𝓤 : Ura M} (𝓛 : Logic 𝓤) (mem : Memory → SProp
   α = named_lft 1 0 tt (κ, tt)
 
   abbrev mach : Val
-  mach = view-val κ d
+  mach = view_val κ d
 
   abbrev Own : Fml
   Own = (B (κ, tt)).own d (mach ∷ [])
@@ -110,8 +110,8 @@ module _ {M : Type 1} {𝓤 : Ura M} (𝓛 : Logic 𝓤) (mem : Memory → SProp
   abbrev vals : List Val × (List Val × Unit {0})
   vals = (mach ∷ [], (vint w64 j ∷ [], tt))
 
-  abbrev shown-val : BodyShown → Val
-  shown-val b = EL.val S.the_type S'.the_laws b
+  abbrev shown_val : BodyShown → Val
+  shown_val b = EL.val S.the_type S'.the_laws b
 
   abbrev made : Bor (List ℕ) → BodyShown → BodyPart
   made r b = record { bytes = r; shown = b }
@@ -127,9 +127,9 @@ module _ {M : Type 1} {𝓤 : Ura M} (𝓛 : Logic 𝓤) (mem : Memory → SProp
 
   -- the call of `part`
   abbrev to_part : BodyShown → (Part 𝓛 mem run).Ghost
-  to_part b = (((κ, tt), (q, tt), tt, (d.shelf, (b, tt)), (slice-val d.shelf ∷ [], (shown-val b ∷ [], tt))), tt)
+  to_part b = (((κ, tt), (q, tt), tt, (d.shelf, (b, tt)), (slice-val d.shelf ∷ [], (shown_val b ∷ [], tt))), tt)
 
-  asked-part : (b : BodyShown) → Is S.the_row b (shown-val b ∷ []) → Inside d.shelf.now b → ent 𝓤 (⋆ 𝓛 (‵ (Bytes.own d.shelf (slice-val d.shelf ∷ [])) ∷ (‵ (flft κ q) ⊛ ‵ ftrue) ∷ [])) ((Part 𝓛 mem run).pre (to_part b))
+  asked-part : (b : BodyShown) → Is S.the_row b (shown_val b ∷ []) → Inside d.shelf.now b → ent 𝓤 (⋆ 𝓛 (‵ (Bytes.own d.shelf (slice-val d.shelf ∷ [])) ∷ (‵ (flft κ q) ⊛ ‵ ftrue) ∷ [])) ((Part 𝓛 mem run).pre (to_part b))
   asked-part b is i =
       qed 𝓛 (‵ (Bytes.own d.shelf (slice-val d.shelf ∷ [])) ∷ (‵ (flft κ q) ⊛ ‵ ftrue) ∷ []) ∵
       nothing ! $ owned ! S.the_row (Is S.the_row) (EL.makes S.the_type S'.the_plain 𝓛) b _ is $ fjoin ! $ move ! (1 ∷ 0 ∷ []) $ fjoin ! $ move ! (1 ∷ 0 ∷ []) $ says ! i $ frame ! $ done !
@@ -137,7 +137,7 @@ module _ {M : Type 1} {𝓤 : Ura M} (𝓛 : Logic 𝓤) (mem : Memory → SProp
   told_part : (b : BodyShown) (r : Bor (List ℕ)) → ent 𝓤 (ensured 𝓛 part.ended (part.clauses 𝓛 mem run) (κ, tt) (d.shelf, (b, tt)) tt r) (fact 𝓤 (IsPart d.shelf b r))
   told_part b r = ex_e 𝓤 _ (λ ws. snd∗ 𝓤 (sem 𝓛 (lasts part.ended (κ, tt) (d.shelf, (b, tt)) ws)) (fact 𝓤 (IsPart d.shelf b r)))
 
-  exits : (r : Bor (List ℕ)) (b : BodyShown) → Is S.the_row b (shown-val b ∷ []) → Told b × IsPart d.shelf b r
+  exits : (r : Bor (List ℕ)) (b : BodyShown) → Is S.the_row b (shown_val b ∷ []) → Told b × IsPart d.shelf b r
       → ent 𝓤 (⋆ 𝓛 (‵ (Bytes.own r (slice-val r ∷ [])) ∷ (‵ (flft κ q) ⊛ ‵ ftrue) ∷ ‵ Own ∷ ‵ Rest ∷ [])) (Post (made_val r b))
   exits r b is e =
       qed 𝓛 (‵ (Bytes.own r (slice-val r ∷ [])) ∷ (‵ (flft κ q) ⊛ ‵ ftrue) ∷ ‵ Own ∷ ‵ Rest ∷ []) ∵
@@ -158,12 +158,12 @@ module _ {M : Type 1} {𝓤 : Ura M} (𝓛 : Logic 𝓤) (mem : Memory → SProp
         -- [what shelf owns; what v owns; what j owns; room for _7; …; the token]: `body_shown`
         move ! (0 ∷ 19 ∷ []) $ use2 𝓛 (raw ((Callee ρ Said 𝓤 𝓛).pre (to ρ Said 𝓤 𝓛 κ q d j))) (asked ρ Said 𝓤 𝓛 κ q d j j-fits (LL.owed (T.the_type α) (T'.the_laws α) d _ is_view).1.0) $
         calls_at ! fm (Callee ρ Said 𝓤 𝓛) known-shown (to ρ Said 𝓤 𝓛 κ q d j) (and_then ! (load ! (from ! (stop !)) (look ! 5 refl)) (and_then ! (load ! (from ! (stop !)) (look ! 11 refl)) (and_then ! (load ! (from ! (stop !)) (look ! 13 refl)) (no_more !)))) (λ u.
-        use1 𝓛 (later (some (λ (b : BodyShown). ((‵ (flft κ q) ⊛ ‵ ftrue) ⊛ ‵ ((S.the_row).own_val b (u ∷ []))) ⊛ raw (ensured 𝓛 (callee-ended ρ) (callee ρ Said 𝓤) (κ, tt) (d.shelf, (d.place, (j, tt))) tt b)))) (id⊢ 𝓤 _) $ await ! tt $ pick ! (λ b.
+        use1 𝓛 (later (some (λ (b : BodyShown). ((‵ (flft κ q) ⊛ ‵ ftrue) ⊛ ‵ ((S.the_row).own_val b (u ∷ []))) ⊛ raw (ensured 𝓛 (callee_ended ρ) (callee ρ Said 𝓤) (κ, tt) (d.shelf, (d.place, (j, tt))) tt b)))) (id⊢ 𝓤 _) $ await ! tt $ pick ! (λ b.
         split ! $ move ! (1 ∷ []) $ use1 𝓛 (raw (fact 𝓤 (Told b))) (told ρ Said 𝓤 𝓛 κ q d j b) $ heard ! (Told b) (λ e. split ! $ move ! (1 ∷ []) $
         -- [the result; the token; what v owns; what j owns; room for _7; …; room for _4; …]
         peeks ! S.the_row (Is S.the_row) (shows 𝓛 S.the_row) b (u ∷ []) (λ is. land ! (from ! (stop !)) (init ! 10 refl ((EL.lawful S.the_type S'.the_laws 𝓛 tt).typed b _ is).0) $
         rewrite ! 0 (λ (z : Val). ‵ ((S.the_row).own_val b (z ∷ []))) (ap only (EL.tells S.the_type S'.the_laws b _ is)) refl $ rewrite ! 10 (λ (z : Val). ‵ (fat full_share S'.mir l₄ 0 z)) (ap only (EL.tells S.the_type S'.the_laws b _ is)) refl $
-        peeks ! S.the_row (Is S.the_row) (shows 𝓛 S.the_row) b (shown-val b ∷ []) (λ is_b. drop ! $
+        peeks ! S.the_row (Is S.the_row) (shows 𝓛 S.the_row) b (shown_val b ∷ []) (λ is_b. drop ! $
         -- [the token; what v owns; what j owns; room for _7; …; _1; …]: `part`
         assigns ! (of_opd ! (load ! (from ! (fld ! refl (stop !))) (look_in ! 15 (sub ! 0 refl (whole !))))) (from ! (stop !)) (init ! 3 refl (tt, wt.1.0)) $
         move ! (1 ∷ []) $ use1 𝓛 (‵ (Bytes.own d.shelf (slice-val d.shelf ∷ [])) ⊛ ‵ Own) (shelf-out 𝓛 κ d) $ split ! $
@@ -196,9 +196,9 @@ module _ {M : Type 1} {𝓤 : Ura M} (𝓛 : Logic 𝓤) (mem : Memory → SProp
       walk_Meets 𝓛 f.ended stayed (Goes-none 𝓛 1 B yes (λ κs x f. refl), (Goes-none 𝓛 1 (λ _. usize) yes (λ κs x f. refl), tt)) (f.clauses 𝓛 mem run)
       (WpFn 𝓤 H 𝓣.C 𝓣.Λ code.function) (WpFn-mono 𝓤 H 𝓛.laws 𝓣 code.function) walks
 
-pub body-spec : {M : Type 1} → stated.statement M
+pub body_spec : {M : Type 1} → stated.statement M
 unfolding code.routine tables_of
-body-spec 𝓤 𝓛 𝓜 𝓡 =
+body_spec 𝓤 𝓛 𝓜 𝓡 =
     entered 𝓤 𝓛.H (triple_of 𝓛 f.signature (f.spec 𝓛 𝓜.mem 𝓡.run))
     (tables 𝓤 𝓛.H 𝓜 𝓡 code.env).C (tables 𝓤 𝓛.H 𝓜 𝓡 code.env).Λ #body code.function (code.unfolded 𝓤 𝓛.H 𝓜 𝓡)
     (meets 𝓛 𝓜.mem 𝓡.run (tables_of 𝓤 𝓛.H 𝓜 (tables 𝓤 𝓛.H 𝓜 𝓡 code.env))

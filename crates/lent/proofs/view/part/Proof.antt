@@ -53,8 +53,8 @@ returns-2 c =
     let f : a.shown ≡ NoBody k.0 k.1.0 = cc in
     rw f (record { bytes = refl; block = refl; place = omega arith })
 
-pub part-spec : {M : Type 1} → statement M
-part-spec =
+pub part_spec : {M : Type 1} → statement M
+part_spec =
     tie.close
     (tie.spec
     enum-known-shown

@@ -38,7 +38,7 @@ use denote.Triple.Table.{entered, cited}
 use denote.Triple.Walked.{says, Stays, stay_none, walk_of, Goes-none, Walks, ends_at, walked, walk_Meets}
 use denote.Exit.{yes}
 use denote.Triple.Clauses.{ensured}
-use Rattle.lookup.specs.Show.{summaryShown}
+use Rattle.lookup.specs.Show.{summary_shown}
 use Rattle.lookup.specs.declared.find.Shown.{Shown}
 use Rattle.lookup.specs.declared.find.SummaryShown.{SummaryShown}
 use Rattle.lookup.specs.contracts.find.Shown as P
@@ -51,7 +51,7 @@ use Rattle.lookup.proofs.find.summary_shown.Met as callee-thm
 use Rattle.lent.specs.declared.view.ListView.{ListView}
 use Rattle.lent.specs.contracts.view.ListView as T
 use Rattle.lent.proofs.view.ListView.TheLaws as T'
-use Rattle.lent.proofs.Views.{B, view-val, slice-val, shelf-out, callee-ended, callee, Callee, to, asked, told}
+use Rattle.lent.proofs.Views.{B, view_val, slice-val, shelf-out, callee_ended, callee, Callee, to, asked, told}
 use Rattle.lent.specs.contracts.view.summary.Key.{name as #summary}
 use Rattle.lent.specs.contracts.view.summary as f
 use Rattle.lent.proofs.view.summary.Statement as stated
@@ -62,7 +62,7 @@ abbrev ρ : Slot 1
 
 -- what the covered function says of its result
 abbrev Said : Lfts 1 → List ℕ → Shown → ℕ → SummaryShown → Type 0
-Said κs s p j r = r ≡ summaryShown s p j
+Said κs s p j r = r ≡ summary_shown s p j
 
 abbrev stayed : Stays (f.ended).signature.params (f.ended).kept
 stayed = (stay_none B yes, (stay_none (λ _. usize) yes, tt))
@@ -74,7 +74,7 @@ module _ {M : Type 1} {𝓤 : Ura M} (𝓛 : Logic 𝓤) (mem : Memory → SProp
   α = named_lft 1 0 tt (κ, tt)
 
   abbrev mach : Val
-  mach = view-val κ d
+  mach = view_val κ d
 
   abbrev Own : Fml
   Own = (B (κ, tt)).own d (mach ∷ [])
@@ -115,7 +115,7 @@ module _ {M : Type 1} {𝓤 : Ura M} (𝓛 : Logic 𝓤) (mem : Memory → SProp
         -- [what shelf owns; what v owns; what j owns; _4; …; _3; …; _2; …; _1; …; room for _0; …; the token]
         move ! (0 ∷ 13 ∷ []) $ use2 𝓛 (raw ((Callee ρ Said 𝓤 𝓛).pre (to ρ Said 𝓤 𝓛 κ q d j))) (asked ρ Said 𝓤 𝓛 κ q d j j-fits (LL.owed (T.the_type α) (T'.the_laws α) d _ is_view).1.0) $
         calls_at ! fm (Callee ρ Said 𝓤 𝓛) known (to ρ Said 𝓤 𝓛 κ q d j) (and_then ! (load ! (from ! (stop !)) (look ! 3 refl)) (and_then ! (load ! (from ! (stop !)) (look ! 5 refl)) (and_then ! (load ! (from ! (stop !)) (look ! 7 refl)) (no_more !)))) (λ u.
-        use1 𝓛 (later (some (λ (r : SummaryShown). ((‵ (flft κ q) ⊛ ‵ ftrue) ⊛ ‵ ((R.the_row).own_val r (u ∷ []))) ⊛ raw (ensured 𝓛 (callee-ended ρ) (callee ρ Said 𝓤) (κ, tt) (d.shelf, (d.place, (j, tt))) tt r)))) (id⊢ 𝓤 _) $ await ! tt $ pick ! (λ r.
+        use1 𝓛 (later (some (λ (r : SummaryShown). ((‵ (flft κ q) ⊛ ‵ ftrue) ⊛ ‵ ((R.the_row).own_val r (u ∷ []))) ⊛ raw (ensured 𝓛 (callee_ended ρ) (callee ρ Said 𝓤) (κ, tt) (d.shelf, (d.place, (j, tt))) tt r)))) (id⊢ 𝓤 _) $ await ! tt $ pick ! (λ r.
         split ! $ move ! (1 ∷ []) $ use1 𝓛 (raw (fact 𝓤 (Told r))) (told ρ Said 𝓤 𝓛 κ q d j r) $ heard ! (Told r) (λ e. split ! $ move ! (1 ∷ []) $
         -- [the result; the token; what v owns; what j owns; _4; …; _3; …; _2; …; _1; …; room for _0; …]
         peeks ! R.the_row (Is R.the_row) (shows 𝓛 R.the_row) r (u ∷ []) (λ is. land ! (from ! (stop !)) (init ! 12 refl ((EL.lawful R.the_type R'.the_laws 𝓛 tt).typed r _ is).0) $
@@ -136,9 +136,9 @@ module _ {M : Type 1} {𝓤 : Ura M} (𝓛 : Logic 𝓤) (mem : Memory → SProp
       walk_Meets 𝓛 f.ended stayed (Goes-none 𝓛 1 B yes (λ κs x f. refl), (Goes-none 𝓛 1 (λ _. usize) yes (λ κs x f. refl), tt)) (f.clauses 𝓛 mem run)
       (WpFn 𝓤 H 𝓣.C 𝓣.Λ code.function) (WpFn-mono 𝓤 H 𝓛.laws 𝓣 code.function) walks
 
-pub summary-spec : {M : Type 1} → stated.statement M
+pub summary_spec : {M : Type 1} → stated.statement M
 unfolding code.routine tables_of
-summary-spec 𝓤 𝓛 𝓜 𝓡 =
+summary_spec 𝓤 𝓛 𝓜 𝓡 =
     entered 𝓤 𝓛.H (triple_of 𝓛 f.signature (f.spec 𝓛 𝓜.mem 𝓡.run))
     (tables 𝓤 𝓛.H 𝓜 𝓡 code.env).C (tables 𝓤 𝓛.H 𝓜 𝓡 code.env).Λ #summary code.function (code.unfolded 𝓤 𝓛.H 𝓜 𝓡)
     (meets 𝓛 𝓜.mem 𝓡.run (tables_of 𝓤 𝓛.H 𝓜 (tables 𝓤 𝓛.H 𝓜 𝓡 code.env))

@@ -38,14 +38,14 @@ use denote.Triple.Table.{entered, cited}
 use denote.Triple.Walked.{says, Stays, stay_none, stay_none_slice, walk_of, Goes-none, Goes-none_slice, Walks, ends_at, walked, walk_Meets}
 use denote.Exit.{yes}
 use denote.Triple.Clauses.{ensured, lasts}
-use Rattle.lookup.specs.Find.{shownOf, found}
+use Rattle.lookup.specs.Find.{shown_of, found}
 use Rattle.lent.specs.declared.view.ListView.{ListView}
 use Rattle.lookup.specs.declared.find.Shown.{Shown}
 use Rattle.lent.specs.contracts.view.ListView as T
 use Rattle.lent.proofs.view.ListView.TheLaws as T'
 use Rattle.lookup.specs.contracts.find.Shown as P
 use Rattle.lookup.proofs.find.Shown.TheLaws as P'
-use Rattle.lent.proofs.Views.{view-val, place-val, slice-val}
+use Rattle.lent.proofs.Views.{view_val, place_val, slice-val}
 use Rattle.lookup.specs.contracts.find.find_list as find
 use Rattle.lookup.proofs.find.find_list.Symbol as find-def
 use Rattle.lookup.proofs.find.find_list.Symbol.{name as #find-list}
@@ -98,13 +98,13 @@ module _ {M : Type 1} {𝓤 : Ura M} (𝓛 : Logic 𝓤) (mem : Memory → SProp
       qed 𝓛 (‵ Own ∷ (‵ (flft κ q) ⊛ ‵ ftrue) ∷ []) ∵
       nothing ! $ owned ! u32 (Is u32) (uint_Makes 𝓛 w32) n _ (refl, n-fits) $ fjoin ! $ move ! (1 ∷ 0 ∷ []) $ fjoin ! $ move ! (1 ∷ 0 ∷ []) $ join ! $ frame ! $ done !
 
-  said : (p : Shown) → ent 𝓤 (ensured 𝓛 find.ended (find.clauses 𝓛 mem run) (κ, tt) a tt p) (fact 𝓤 (p ≡ shownOf (found n s.now)))
-  said p = ex_e 𝓤 _ (λ ws. snd∗ 𝓤 (sem 𝓛 (lasts find.ended (κ, tt) a ws)) (fact 𝓤 (p ≡ shownOf (found n s.now))))
+  said : (p : Shown) → ent 𝓤 (ensured 𝓛 find.ended (find.clauses 𝓛 mem run) (κ, tt) a tt p) (fact 𝓤 (p ≡ shown_of (found n s.now)))
+  said p = ex_e 𝓤 _ (λ ws. snd∗ 𝓤 (sem 𝓛 (lasts find.ended (κ, tt) a ws)) (fact 𝓤 (p ≡ shown_of (found n s.now))))
 
-  exits : (p : Shown) → Is P.the_row p (place-val p ∷ []) → p ≡ shownOf (found n s.now) → ent 𝓤 (⋆ 𝓛 (‵ Own ∷ (‵ (flft κ q) ⊛ ‵ ftrue) ∷ [])) (Post (view-val κ (made p)))
+  exits : (p : Shown) → Is P.the_row p (place_val p ∷ []) → p ≡ shown_of (found n s.now) → ent 𝓤 (⋆ 𝓛 (‵ Own ∷ (‵ (flft κ q) ⊛ ‵ ftrue) ∷ [])) (Post (view_val κ (made p)))
   exits p is e =
       qed 𝓛 (‵ Own ∷ (‵ (flft κ q) ⊛ ‵ ftrue) ∷ []) ∵
-      suffices ! _ (ends_at 𝓛 f.ended stayed (f.clauses 𝓛 mem run) (((κ, tt), (q, tt), tt, a, vals), tt) (view-val κ (made p)) (made p) (tt, (tt, tt)) (tt, (tt, tt))) $ says ! (refl, e) $
+      suffices ! _ (ends_at 𝓛 f.ended stayed (f.clauses 𝓛 mem run) (((κ, tt), (q, tt), tt, a, vals), tt) (view_val κ (made p)) (made p) (tt, (tt, tt)) (tt, (tt, tt))) $ says ! (refl, e) $
       move ! (1 ∷ []) $ frame ! $ use1 𝓛 (‵ Own ⊛ ‵ Own) ((shr_slice_copy 𝓛 (named 0) κ u8).twice s (v ∷ [])) $ split ! $
       nothing ! $ owned ! u32 (Is u32) (uint_Makes 𝓛 w32) n _ (refl, n-fits) $ fjoin ! $ move ! (1 ∷ 0 ∷ []) $ fjoin ! $ frame ! $
       -- [what shelf owns]: with the place's facts it is what the struct owns
@@ -121,11 +121,11 @@ module _ {M : Type 1} {𝓤 : Ura M} (𝓛 : Logic 𝓤) (mem : Memory → SProp
         move ! (0 ∷ 11 ∷ []) $ use2 𝓛 (raw ((Find 𝓛 mem run).pre to)) asked $
         calls_at ! fm (Find 𝓛 mem run) known to (and_then ! (load ! (from ! (stop !)) (look ! 7 refl)) (and_then ! (load ! (from ! (stop !)) (look ! 5 refl)) (no_more !))) (λ u.
         use1 𝓛 (later (some (λ (p : Shown). ((‵ (flft κ q) ⊛ ‵ ftrue) ⊛ ‵ ((P.the_row).own_val p (u ∷ []))) ⊛ raw (ensured 𝓛 find.ended (find.clauses 𝓛 mem run) (κ, tt) a tt p)))) (id⊢ 𝓤 _) $ await ! tt $ pick ! (λ p.
-        split ! $ move ! (1 ∷ []) $ use1 𝓛 (raw (fact 𝓤 (p ≡ shownOf (found n s.now)))) (said p) $ heard ! (p ≡ shownOf (found n s.now)) (λ e. split ! $ move ! (1 ∷ []) $
+        split ! $ move ! (1 ∷ []) $ use1 𝓛 (raw (fact 𝓤 (p ≡ shown_of (found n s.now)))) (said p) $ heard ! (p ≡ shown_of (found n s.now)) (λ e. split ! $ move ! (1 ∷ []) $
         peeks ! P.the_row (Is P.the_row) (shows 𝓛 P.the_row) p (u ∷ []) (λ is.
         land ! (from ! (stop !)) (init ! 4 refl ((EL.lawful P.the_type P'.the_laws 𝓛 tt).typed p _ is).0) $
         rewrite ! 0 (λ (z : Val). ‵ ((P.the_row).own_val p (z ∷ []))) (ap only (EL.tells P.the_type P'.the_laws p _ is)) refl $ rewrite ! 4 (λ (z : Val). ‵ (fat full_share P'.mir l₃ 0 z)) (ap only (EL.tells P.the_type P'.the_laws p _ is)) refl $
-        peeks ! P.the_row (Is P.the_row) (shows 𝓛 P.the_row) p (place-val p ∷ []) (λ is'. drop ! $
+        peeks ! P.the_row (Is P.the_row) (shows 𝓛 P.the_row) p (place_val p ∷ []) (λ is'. drop ! $
         -- [the token; what shelf owns; term's; _3; …; _2; …; _1; …; room for _0; …]
         assigns ! (agg ! (and_then ! (load ! (from ! (stop !)) (look ! 7 refl)) (and_then ! (load ! (from ! (stop !)) (look ! 3 refl)) (no_more !)))) (from ! (stop !))
         (init ! 9 refl ((LL.lawful (T.the_type α) (T'.the_laws α) 𝓛).typed (made p) _ (LL.owes (T.the_type α) (T'.the_laws α) (made p) (g, (is', tt)))).0) $
@@ -145,9 +145,9 @@ module _ {M : Type 1} {𝓤 : Ura M} (𝓛 : Logic 𝓤) (mem : Memory → SProp
       walk_Meets 𝓛 f.ended stayed (Goes-none_slice 𝓛 1 (0 ∷ []) tt (plain (λ _. u8)) yes, (Goes-none 𝓛 1 (λ _. u32) yes (λ κs x f. refl), tt)) (f.clauses 𝓛 mem run)
       (WpFn 𝓤 H 𝓣.C 𝓣.Λ code.function) (WpFn-mono 𝓤 H 𝓛.laws 𝓣 code.function) walks
 
-pub view-spec : {M : Type 1} → stated.statement M
+pub view_spec : {M : Type 1} → stated.statement M
 unfolding code.routine tables_of
-view-spec 𝓤 𝓛 𝓜 𝓡 =
+view_spec 𝓤 𝓛 𝓜 𝓡 =
     entered 𝓤 𝓛.H (triple_of 𝓛 f.signature (f.spec 𝓛 𝓜.mem 𝓡.run))
     (tables 𝓤 𝓛.H 𝓜 𝓡 code.env).C (tables 𝓤 𝓛.H 𝓜 𝓡 code.env).Λ #view code.function (code.unfolded 𝓤 𝓛.H 𝓜 𝓡)
     (meets 𝓛 𝓜.mem 𝓡.run (tables_of 𝓤 𝓛.H 𝓜 (tables 𝓤 𝓛.H 𝓜 𝓡 code.env))

@@ -1,5 +1,5 @@
 -- `lines::line::put_interval` meets its contract: the line of each mark. Assumes nothing.
-use Rattle.model.proofs.Storing.{stored-as}
+use Rattle.model.proofs.Storing.{stored_as}
 use Rattle.lines.proofs.Lines.{opened-line, skipped-line}
 use native.Mathlib.Omega.{arith}
 use mathlib.Core.Path.{ap}
@@ -24,7 +24,7 @@ same_length : tie.Need-same-length
 same_length c = search rules
 
 returns : tie.Need-returns
-returns c = stored-as (opened-line c.before.before.before.before.before.before.before.before.before.args.first c.before.before.before.before.before.before.before.before.before.args.last c.before.before.before.before.before.before.before.before.before.args.ceiling c.before.before.before.before.before.before.before.before.before.args.mark (omega arith)) c.before.before.put-line.ensures
+returns c = stored_as (opened-line c.before.before.before.before.before.before.before.before.before.args.first c.before.before.before.before.before.before.before.before.before.args.last c.before.before.before.before.before.before.before.before.before.args.ceiling c.before.before.before.before.before.before.before.before.before.args.mark (omega arith)) c.before.before.put-line.ensures
 
 slice-aggregate-put-line-4 : tie.Need-slice-aggregate-put-line-4
 slice-aggregate-put-line-4 c = search rules
@@ -42,10 +42,10 @@ same-length-2 : tie.Need-same-length-2
 same-length-2 c = search rules
 
 returns-2 : tie.Need-returns-2
-returns-2 c = stored-as (skipped-line c.before.before.before.before.before.before.before.before.before.args.first c.before.before.before.before.before.before.before.before.before.args.last c.before.before.before.before.before.before.before.before.before.args.ceiling c.before.before.before.before.before.before.before.before.before.args.mark (λ e. omega arith)) c.before.before.put-line2.ensures
+returns-2 c = stored_as (skipped-line c.before.before.before.before.before.before.before.before.before.args.first c.before.before.before.before.before.before.before.before.before.args.last c.before.before.before.before.before.before.before.before.before.args.ceiling c.before.before.before.before.before.before.before.before.before.args.mark (λ e. omega arith)) c.before.before.put-line2.ensures
 
-pub put-interval-spec : {M : Type 1} → statement M
-put-interval-spec =
+pub put_interval_spec : {M : Type 1} → statement M
+put_interval_spec =
     tie.close
     (tie.spec
     slice-aggregate-put-line

@@ -1,5 +1,5 @@
 -- `lines::line::put_line` meets its contract: three stores, one after the other. Assumes nothing.
-use Rattle.model.proofs.Storing.{stored-append, stored-as, stored-length}
+use Rattle.model.proofs.Storing.{stored-append, stored_as, stored-length}
 use Rattle.lines.proofs.Lines.{line-parts, line-size}
 use native.Mathlib.Omega.{arith}
 use borrow.Author.Rules.{rules}
@@ -22,10 +22,10 @@ same_length c = search rules
 returns : tie.Need-returns
 returns c =
     let a = c.before.before.before.before.before.before.before.before.before.before.before.before.before.before.before.before.args in
-    stored-as (line-parts a.letter.now a.ns.now a.end.now)
+    stored_as (line-parts a.letter.now a.ns.now a.end.now)
     (stored-append c.before.before.before.before.before.before.before.before.before.before.put_word.ensures (stored-append c.before.before.before.before.before.before.put-numbers.ensures c.before.before.put-word2.ensures))
 
-pub put-line-spec : {M : Type 1} → statement M
-put-line-spec =
+pub put_line_spec : {M : Type 1} → statement M
+put_line_spec =
     tie.close
     (tie.spec put-word-requires put-numbers-requires put-word-requires-2 same_length returns)

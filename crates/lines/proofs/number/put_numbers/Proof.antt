@@ -59,8 +59,8 @@ same_length c = c.before.loop.invariant.1.same
 returns : tie.Need-returns invariant-loop decreases-loop
 returns c = rest_end (numbers-none c.before.before.before.before.args.ns.now c.before.loop.i c.loop-test.false) c.before.loop.invariant.1
 
-pub put-numbers-spec : {M : Type 1} → statement M
-put-numbers-spec =
+pub put_numbers_spec : {M : Type 1} → statement M
+put_numbers_spec =
     tie.close
     (tie.spec
     invariant-loop

@@ -1,6 +1,6 @@
 -- `lines::number::put_word` meets its contract. The invariant: to store what is left of the word from here gives what is asked. Assumes nothing.
 use Rattle.model.proofs.Storing.{Rest, rest-start, rest-turn, rest-room, rest_end}
-use Rattle.model.proofs.Lists.{rest-cons, rest-none}
+use Rattle.model.proofs.Lists.{rest_cons, rest-none}
 use borrow.Author.Rules.{rules}
 use lib.ListN.{length, drop, get_or}
 use Prim.Native.Nat.{◌+◌, ◌-◌, ◌≤◌}
@@ -27,7 +27,7 @@ room : (c : tie.In-loop invariant-loop decreases-loop) → c.before.loop.j + 1 �
 room c =
     let w = c.before.before.args.word.now in
     let l = c.before.loop in
-    rest-room (get_or w l.i 0 ∷ []) (drop (l.i + 1) w) (rest-cons w l.i c.loop-test.true) l.invariant.1 c.before.before.requires
+    rest-room (get_or w l.i 0 ∷ []) (drop (l.i + 1) w) (rest_cons w l.i c.loop-test.true) l.invariant.1 c.before.before.requires
 
 slice-write-out : tie.Need-slice-write-out invariant-loop decreases-loop
 slice-write-out c = omega (arith, room c.before)
@@ -45,7 +45,7 @@ loop-again : tie.Need-loop-preserved invariant-loop decreases-loop
 loop-again c =
     let w = c.before.before.before.args.word.now in
     let l = c.before.before.loop in
-    (omega arith, rest-turn (get_or w l.i 0 ∷ []) (drop (l.i + 1) w) (rest-cons w l.i c.before.loop-test.true) l.invariant.1 (record { past = refl; whole = refl }))
+    (omega arith, rest-turn (get_or w l.i 0 ∷ []) (drop (l.i + 1) w) (rest_cons w l.i c.before.loop-test.true) l.invariant.1 (record { past = refl; whole = refl }))
 
 same_length : tie.Need-same-length invariant-loop decreases-loop
 same_length c = c.before.loop.invariant.1.same
@@ -53,8 +53,8 @@ same_length c = c.before.loop.invariant.1.same
 returns : tie.Need-returns invariant-loop decreases-loop
 returns c = rest_end (rest-none c.before.before.args.word.now c.before.loop.i c.loop-test.false) c.before.loop.invariant.1
 
-pub put-word-spec : {M : Type 1} → statement M
-put-word-spec =
+pub put_word_spec : {M : Type 1} → statement M
+put_word_spec =
     tie.close
     (tie.spec
     invariant-loop

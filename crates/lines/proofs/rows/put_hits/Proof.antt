@@ -2,7 +2,7 @@
 use mathlib.Core.List.{◌++◌}
 use Rattle.model.specs.Post.{post, postings}
 use Rattle.model.proofs.Storing.{Rest, rest-start, rest-turn, rest-room, rest_end}
-use Rattle.lines.specs.Text.{hitLine, hitLines}
+use Rattle.lines.specs.Text.{hit_line, hit_lines}
 use Rattle.lines.proofs.Printing.{hits_more, hits-none}
 use borrow.Author.Rules.{rules}
 use lib.ListN.{take, drop, get_or}
@@ -14,7 +14,7 @@ use Rattle.lines.proofs.rows.put_hits.Tie as tie
 
 abbrev invariant-loop : tie.invariant-loop
 invariant-loop out₀ at docids scores n j₀ i₀ out j i =
-    (i ≤ n) × Rest out₀ out at j (hitLines 1 (take n (postings docids scores))) (hitLines (i + 1) (drop i (take n (postings docids scores))))
+    (i ≤ n) × Rest out₀ out at j (hit_lines 1 (take n (postings docids scores))) (hit_lines (i + 1) (drop i (take n (postings docids scores))))
 
 abbrev decreases-loop : tie.decreases-loop
 decreases-loop out₀ at docids scores n j₀ i₀ out j i = n - i
@@ -42,7 +42,7 @@ next : (c : tie.In-loop invariant-loop decreases-loop) →
     let a = c.before.before.before.args in
     let l = c.before.loop in
     let hs = take a.n (postings a.docids.now a.scores.now) in
-    hitLines (l.i + 1) (drop l.i hs) ≡ hitLine (l.i + 1) (post (get_or a.docids.now l.i 0) (get_or a.scores.now l.i 0)) ++ hitLines (l.i + 1 + 1) (drop (l.i + 1) hs)
+    hit_lines (l.i + 1) (drop l.i hs) ≡ hit_line (l.i + 1) (post (get_or a.docids.now l.i 0) (get_or a.scores.now l.i 0)) ++ hit_lines (l.i + 1 + 1) (drop (l.i + 1) hs)
 next c =
     let a = c.before.before.before.args in
     let l = c.before.loop in
@@ -52,7 +52,7 @@ put-hit-requires : tie.Need-put-hit-requires invariant-loop decreases-loop
 put-hit-requires c κs =
     let a = c.before.before.before.before.before.before.args in
     let i = c.before.before.before.before.loop.i in
-    rest-room (hitLine (i + 1) (post (get_or a.docids.now i 0) (get_or a.scores.now i 0))) _ (next c.before.before.before) c.before.before.before.before.loop.invariant.1 c.before.before.before.before.before.before.requires.3
+    rest-room (hit_line (i + 1) (post (get_or a.docids.now i 0) (get_or a.scores.now i 0))) _ (next c.before.before.before) c.before.before.before.before.loop.invariant.1 c.before.before.before.before.before.before.requires.3
 
 add-i : tie.Need-overflow-add-i invariant-loop decreases-loop
 add-i c = search rules
@@ -69,8 +69,8 @@ same_length c = c.before.loop.invariant.1.same
 returns : tie.Need-returns invariant-loop decreases-loop
 returns c = let a = c.before.before.before.args in rest_end (hits-none (c.before.loop.i + 1) a.n c.before.loop.i (postings a.docids.now a.scores.now) c.loop-test.false) c.before.loop.invariant.1
 
-pub put-hits-spec : {M : Type 1} → statement M
-put-hits-spec =
+pub put_hits_spec : {M : Type 1} → statement M
+put_hits_spec =
     tie.close
     (tie.spec
     invariant-loop

@@ -1,7 +1,7 @@
 -- `lines::rows::put_intervals` meets its contract. The invariant: to store the lines that are left from here gives what is asked. Assumes nothing.
-use Rattle.model.specs.Limits.{maxDocid}
+use Rattle.model.specs.Limits.{max_docid}
 use Rattle.model.proofs.Storing.{Rest, rest-start, rest-turn, rest-room, rest_end}
-use Rattle.lines.specs.Text.{intervalLine, intervalLines}
+use Rattle.lines.specs.Text.{interval_line, interval_lines}
 use Rattle.lines.proofs.Printing.{intervals-more, intervals-none}
 use borrow.Author.Rules.{rules}
 use lib.ListN.{length, drop, get_or}
@@ -14,7 +14,7 @@ use Rattle.lines.proofs.rows.put_intervals.Tie as tie
 
 abbrev invariant-loop : tie.invariant-loop
 invariant-loop out₀ at firsts ceilings marks j₀ i₀ out j i =
-    (i ≤ length firsts) × Rest out₀ out at j (intervalLines maxDocid firsts ceilings marks) (intervalLines maxDocid (drop i firsts) (drop i ceilings) (drop i marks))
+    (i ≤ length firsts) × Rest out₀ out at j (interval_lines max_docid firsts ceilings marks) (interval_lines max_docid (drop i firsts) (drop i ceilings) (drop i marks))
 
 abbrev decreases-loop : tie.decreases-loop
 decreases-loop out₀ at firsts ceilings marks j₀ i₀ out j i = length firsts - i
@@ -47,18 +47,18 @@ next : (c : tie.After-last-docid invariant-loop decreases-loop) →
     let fs = a.firsts.now in
     let cs = a.ceilings.now in
     let ms = a.marks.now in
-    intervalLines maxDocid (drop i fs) (drop i cs) (drop i ms)
-    ≡ intervalLine (get_or fs i 0) c.last-docid.result (get_or cs i 0) (get_or ms i 0) ++ intervalLines maxDocid (drop (i + 1) fs) (drop (i + 1) cs) (drop (i + 1) ms)
+    interval_lines max_docid (drop i fs) (drop i cs) (drop i ms)
+    ≡ interval_line (get_or fs i 0) c.last-docid.result (get_or cs i 0) (get_or ms i 0) ++ interval_lines max_docid (drop (i + 1) fs) (drop (i + 1) cs) (drop (i + 1) ms)
 next c =
     let a = c.before.before.before.before.before.before.before.args in
     let p = c.before.before.before.before.before.before.before.requires.0 in
-    rw c.last-docid.ensures (intervals-more maxDocid c.before.before.loop.i a.firsts.now a.ceilings.now a.marks.now p.ceilings p.marks c.before.loop-test.true)
+    rw c.last-docid.ensures (intervals-more max_docid c.before.before.loop.i a.firsts.now a.ceilings.now a.marks.now p.ceilings p.marks c.before.loop-test.true)
 
 put-interval-requires : tie.Need-put-interval-requires invariant-loop decreases-loop
 put-interval-requires c κs =
     let a = c.before.before.before.before.before.before.before.before.before.before.before.args in
     let i = c.before.before.before.before.before.before.loop.i in
-    rest-room (intervalLine (get_or a.firsts.now i 0) c.before.before.before.before.last-docid.result (get_or a.ceilings.now i 0) (get_or a.marks.now i 0)) _ (next c.before.before.before.before) c.before.before.before.before.before.before.loop.invariant.1 c.before.before.before.before.before.before.before.before.before.before.before.requires.1
+    rest-room (interval_line (get_or a.firsts.now i 0) c.before.before.before.before.last-docid.result (get_or a.ceilings.now i 0) (get_or a.marks.now i 0)) _ (next c.before.before.before.before) c.before.before.before.before.before.before.loop.invariant.1 c.before.before.before.before.before.before.before.before.before.before.before.requires.1
 
 add-i : tie.Need-overflow-add-i invariant-loop decreases-loop
 add-i c = search rules
@@ -73,10 +73,10 @@ same_length : tie.Need-same-length invariant-loop decreases-loop
 same_length c = c.before.loop.invariant.1.same
 
 returns : tie.Need-returns invariant-loop decreases-loop
-returns c = let a = c.before.before.before.before.before.before.args in rest_end (intervals-none maxDocid c.before.loop.i a.firsts.now a.ceilings.now a.marks.now c.loop-test.false) c.before.loop.invariant.1
+returns c = let a = c.before.before.before.before.before.before.args in rest_end (intervals-none max_docid c.before.loop.i a.firsts.now a.ceilings.now a.marks.now c.loop-test.false) c.before.loop.invariant.1
 
-pub put-intervals-spec : {M : Type 1} → statement M
-put-intervals-spec =
+pub put_intervals_spec : {M : Type 1} → statement M
+put_intervals_spec =
     tie.close
     (tie.spec
     invariant-loop

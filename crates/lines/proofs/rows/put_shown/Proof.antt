@@ -29,7 +29,7 @@ same_length c = search rules
 returns : tie.Need-returns
 returns c = stored-append c.before.before.before.before.before.before.before.before.before.before.put-hits.ensures (stored-append c.before.before.before.before.before.before.put-intervals.ensures c.before.before.put-blocks.ensures)
 
-pub put-shown-spec : {M : Type 1} → statement M
-put-shown-spec =
+pub put_shown_spec : {M : Type 1} → statement M
+put_shown_spec =
     tie.close
     (tie.spec put-hits-requires put-intervals-requires put-blocks-requires same_length returns)

@@ -31,6 +31,6 @@ returns-2 c =
     let f : field_at 0x20 a.s.now a.at ≡ Missing = cc in
     c.field2.ensures ∙ sym (found-term a.s.now a.at f)
 
-pub query-field-spec : {M : Type 1} → statement M
-query-field-spec =
+pub query_field_spec : {M : Type 1} → statement M
+query_field_spec =
     tie.close (tie.spec field-requires enum-known-n enum_told field-requires-2 returns returns-2)

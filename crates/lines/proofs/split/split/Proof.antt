@@ -1,7 +1,7 @@
 -- `lines::split::split` meets its contract. The invariant: the fields up to here are passed. Assumes nothing.
-use Rattle.lines.specs.Split.{queryFieldAt}
+use Rattle.lines.specs.Split.{query_field_at}
 use Rattle.wire.specs.declared.field.FieldRead.TheVariants.{Whole, Missing}
-use Rattle.lines.proofs.Splits.{Passing, passing-start, passing-turn, passing-end}
+use Rattle.lines.proofs.Splits.{Passing, passing_start, passing_turn, passing_end}
 use borrow.Author.Rules.{rules}
 use lib.ListN.{length}
 use Prim.Native.Nat.{◌+◌, ◌-◌}
@@ -17,7 +17,7 @@ abbrev decreases-loop : tie.decreases-loop
 decreases-loop input at₀ at = length input - at
 
 loop-holds : tie.Need-loop-init invariant-loop decreases-loop
-loop-holds c = passing-start _
+loop-holds c = passing_start _
 
 query-field-requires : tie.Need-query-field-requires invariant-loop decreases-loop
 query-field-requires c κs = search rules
@@ -30,8 +30,8 @@ turned : (c : tie.After-known-told invariant-loop decreases-loop) → Passing c.
 turned c =
     let s = c.before.before.before.before.before.before.args.input.now in
     let l = c.before.before.before.before.loop in
-    let f : queryFieldAt s l.at ≡ Whole c.before.n.given.0.0 = cc in
-    passing-turn s l.at l.invariant c.before.n.given.0.0 f
+    let f : query_field_at s l.at ≡ Whole c.before.n.given.0.0 = cc in
+    passing_turn s l.at l.invariant c.before.n.given.0.0 f
 
 add_at : tie.Need-overflow-add-at invariant-loop decreases-loop
 add_at c = omega (arith, (turned c).within)
@@ -52,11 +52,11 @@ returns : tie.Need-returns invariant-loop decreases-loop
 returns c =
     let s = c.before.before.before.before.before.args.input.now in
     let l = c.before.before.before.loop in
-    let f : queryFieldAt s l.at ≡ Missing = cc in
-    sym (passing-end s l.at l.invariant f)
+    let f : query_field_at s l.at ≡ Missing = cc in
+    sym (passing_end s l.at l.invariant f)
 
-pub split-spec : {M : Type 1} → statement M
-split-spec =
+pub split_spec : {M : Type 1} → statement M
+split_spec =
     tie.close
     (tie.spec
     invariant-loop

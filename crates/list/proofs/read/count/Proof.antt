@@ -2,14 +2,14 @@
 use native.Mathlib.Omega.{arith}
 use mathlib.Core.Path.{◌≡◌}
 use borrow.Author.Rules.{rules}
-use Rattle.shelf.specs.Blocks.{blocksLeft, Steps}
+use Rattle.shelf.specs.Blocks.{blocks_left, Steps}
 use Rattle.shelf.specs.declared.blocks.BlockStep.TheVariants.{Block, Last}
 use Rattle.list.proofs.Pours.{Counting, count-start, count_turn, count-done}
 use Rattle.list.proofs.read.count.Statement.{statement}
 use Rattle.list.proofs.read.count.Tie as tie
 
 abbrev invariant-loop : tie.invariant-loop
-invariant-loop s r₀ n₀ r n = Counting s (blocksLeft s r₀) r n
+invariant-loop s r₀ n₀ r n = Counting s (blocks_left s r₀) r n
 
 abbrev decreases-loop : tie.decreases-loop
 decreases-loop s r₀ n₀ r n = r.left
@@ -48,7 +48,7 @@ loop-again c =
     let f = found c.before in
     let l = c.before.before.before.before.before.loop in
     let s = c.before.before.before.before.before.before.before.before.args.s.now in
-    count_turn s (blocksLeft s c.before.before.before.before.before.before.new.result) l.r l.n f.0 c.before.before.m.given.0.1.0
+    count_turn s (blocks_left s c.before.before.before.before.before.before.new.result) l.r l.n f.0 c.before.before.m.given.0.1.0
     c.before.before.m.given.0.1.1.0 c.before.before.m.given.0.1.1.1.0 c.before.before.m.given.0.0 f.1 (omega arith) f.2 l.invariant
 
 enum_told : tie.Need-enum-told invariant-loop decreases-loop

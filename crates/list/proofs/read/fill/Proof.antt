@@ -2,14 +2,14 @@
 use native.Mathlib.Omega.{arith}
 use mathlib.Core.Path.{◌≡◌}
 use borrow.Author.Rules.{rules}
-use Rattle.shelf.specs.Blocks.{blocksLeft, Steps}
+use Rattle.shelf.specs.Blocks.{blocks_left, Steps}
 use Rattle.shelf.specs.declared.blocks.BlockStep.TheVariants.{Block, Last}
-use Rattle.list.proofs.Pours.{Pouring, pour-start, pour-room, pour-turn, pour-done}
+use Rattle.list.proofs.Pours.{Pouring, pour_start, pour_room, pour_turn, pour_done}
 use Rattle.list.proofs.read.fill.Statement.{statement}
 use Rattle.list.proofs.read.fill.Tie as tie
 
 abbrev invariant-loop : tie.invariant-loop
-invariant-loop s docids₀ scores₀ r₀ i₀ docids scores r i = Pouring s (blocksLeft s r₀) docids₀ scores₀ docids scores r i
+invariant-loop s docids₀ scores₀ r₀ i₀ docids scores r i = Pouring s (blocks_left s r₀) docids₀ scores₀ docids scores r i
 
 abbrev decreases-loop : tie.decreases-loop
 decreases-loop s docids₀ scores₀ r₀ i₀ docids scores r i = r.left
@@ -20,7 +20,7 @@ new-requires c κs = omega (arith, c.before.before.before.requires.ready.room)
 loop-holds : tie.Need-loop-init invariant-loop decreases-loop
 loop-holds c =
     let b = c.before.before.before.before in
-    pour-start b.args.s.now b.args.list c.new.result b.args.docids.now b.args.scores.now b.requires (omega arith) c.new.ensures
+    pour_start b.args.s.now b.args.list c.new.result b.args.docids.now b.args.scores.now b.requires (omega arith) c.new.ensures
 
 next-requires : tie.Need-next-requires invariant-loop decreases-loop
 next-requires c κs = c.loop.invariant.rests
@@ -51,7 +51,7 @@ read-body-requires c κs =
     let l = c.before.before.before.before.before.before.before.loop in
     let s = c.before.before.before.before.before.before.before.before.before.before.before.before.args.s.now in
     let g = c.before.before.before.before.m.given in
-    pour-room s (blocksLeft s c.before.before.before.before.before.before.before.before.new.result) c.before.before.before.before.before.before.before.before.before.before.before.before.args.docids.now c.before.before.before.before.before.before.before.before.before.before.before.before.args.scores.now l.docids l.scores l.r l.i f.0 g.0.1.0 g.0.1.1.0 g.0.1.1.1.0 g.0.0 f.1 (omega arith) f.2 l.invariant
+    pour_room s (blocks_left s c.before.before.before.before.before.before.before.before.new.result) c.before.before.before.before.before.before.before.before.before.before.before.before.args.docids.now c.before.before.before.before.before.before.before.before.before.before.before.before.args.scores.now l.docids l.scores l.r l.i f.0 g.0.1.0 g.0.1.1.0 g.0.1.1.1.0 g.0.0 f.1 (omega arith) f.2 l.invariant
 
 cast-i : tie.Need-overflow-cast-i invariant-loop decreases-loop
 cast-i c = search rules
@@ -68,7 +68,7 @@ loop-again c =
     let l = c.before.before.before.before.before.before.before.before.before.before.before.before.before.loop in
     let s = c.before.before.before.before.before.before.before.before.before.before.before.before.before.before.before.before.before.before.args.s.now in
     let g = c.before.before.before.before.before.before.before.before.before.before.m.given in
-    pour-turn s (blocksLeft s c.before.before.before.before.before.before.before.before.before.before.before.before.before.before.new.result) c.before.before.before.before.before.before.before.before.before.before.before.before.before.before.before.before.before.before.args.docids.now c.before.before.before.before.before.before.before.before.before.before.before.before.before.before.before.before.before.before.args.scores.now l.docids l.scores l.r l.i f.0 g.0.1.0 g.0.1.1.0 g.0.1.1.1.0 g.0.0 f.1 (omega arith) f.2 l.invariant
+    pour_turn s (blocks_left s c.before.before.before.before.before.before.before.before.before.before.before.before.before.before.new.result) c.before.before.before.before.before.before.before.before.before.before.before.before.before.before.before.before.before.before.args.docids.now c.before.before.before.before.before.before.before.before.before.before.before.before.before.before.before.before.before.before.args.scores.now l.docids l.scores l.r l.i f.0 g.0.1.0 g.0.1.1.0 g.0.1.1.1.0 g.0.0 f.1 (omega arith) f.2 l.invariant
     c.before.before.before.before.before.read-body.new.1.1.0 c.before.before.before.before.before.read-body.new.1.1.1.0 c.before.before.before.before.before.read-body.result c.before.before.before.before.before.read-body.ensures
 
 enum_told : tie.Need-enum-told invariant-loop decreases-loop
@@ -87,7 +87,7 @@ returns c =
     let l = c.before.before.before.loop in
     let e : c.before.before.next.result ≡ Last = cc in
     let d : Steps a.s.now l.r Last = rw e at c.before.before.next.ensures in
-    pour-done a.s.now a.list n.result a.docids.now a.scores.now l.docids l.scores l.r l.i n.ensures d.0 l.invariant
+    pour_done a.s.now a.list n.result a.docids.now a.scores.now l.docids l.scores l.r l.i n.ensures d.0 l.invariant
 
 pub fill_spec : {M : Type 1} → statement M
 fill_spec =

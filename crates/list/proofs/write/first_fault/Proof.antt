@@ -6,13 +6,13 @@ use native.Mathlib.Omega.{arith}
 use lib.ListN.{length}
 use Rattle.model.specs.Post.{postings}
 use Rattle.model.proofs.Posts.{from}
-use Rattle.list.specs.Write.{faultAt}
-use Rattle.list.proofs.Faults.{fault-low, fault-high, fault-score, fault-on, fault-end}
+use Rattle.list.specs.Write.{fault_at}
+use Rattle.list.proofs.Faults.{fault_low, fault_high, fault-score, fault-on, fault-end}
 use Rattle.list.proofs.write.first_fault.Statement.{statement}
 use Rattle.list.proofs.write.first_fault.Tie as tie
 
 abbrev invariant-loop : tie.invariant-loop
-invariant-loop docs scores p₀ i₀ p i = (i ≤ length docs) × (i + faultAt p (from i docs scores) ≡ faultAt 0 (postings docs scores))
+invariant-loop docs scores p₀ i₀ p i = (i ≤ length docs) × (i + fault_at p (from i docs scores) ≡ fault_at 0 (postings docs scores))
 
 abbrev decreases-loop : tie.decreases-loop
 decreases-loop docs scores p₀ i₀ p i = length docs - i
@@ -36,13 +36,13 @@ returns : tie.Need-returns invariant-loop decreases-loop
 returns c =
     let b = c.before.before.before.before in
     let a = b.before.args in
-    omega (arith, fault-low b.loop.p b.loop.i a.docs.now a.scores.now b.before.requires c.before.before.before.loop-test.true c.if1.true, b.loop.invariant.1)
+    omega (arith, fault_low b.loop.p b.loop.i a.docs.now a.scores.now b.before.requires c.before.before.before.loop-test.true c.if1.true, b.loop.invariant.1)
 
 returns-2 : tie.Need-returns-2 invariant-loop decreases-loop
 returns-2 c =
     let b = c.before.before.before.before.before in
     let a = b.before.args in
-    omega (arith, fault-high b.loop.p b.loop.i a.docs.now a.scores.now b.before.requires c.before.before.before.before.loop-test.true c.if2.true, b.loop.invariant.1)
+    omega (arith, fault_high b.loop.p b.loop.i a.docs.now a.scores.now b.before.requires c.before.before.before.before.loop-test.true c.if2.true, b.loop.invariant.1)
 
 returns-3 : tie.Need-returns-3 invariant-loop decreases-loop
 returns-3 c =
@@ -70,8 +70,8 @@ returns-4 c =
     let a = c.before.before.args in
     omega (arith, fault-end c.before.loop.p c.before.loop.i a.docs.now a.scores.now c.loop-test.false, c.before.loop.invariant.1)
 
-pub first-fault-spec : {M : Type 1} → statement M
-first-fault-spec =
+pub first_fault_spec : {M : Type 1} → statement M
+first_fault_spec =
     tie.close
     (tie.spec
     invariant-loop

@@ -5,12 +5,12 @@ use mathlib.Core.Bool.{Bool, false}
 use Prim.Native.Nat.{◌+◌, ◌-◌, ◌≤◌}
 use native.Mathlib.Omega.{arith}
 use lib.ListN.{length}
-use Rattle.list.proofs.Packing.{Turn, turn, sizeFrom, size-turn, size-end, size_small, list-size}
+use Rattle.list.proofs.Packing.{Turn, turn, size_from, size-turn, size-end, size_small, list-size}
 use Rattle.list.proofs.write.list_len.Statement.{statement}
 use Rattle.list.proofs.write.list_len.Tie as tie
 
 abbrev invariant-loop : tie.invariant-loop
-invariant-loop docs scores n₀ a₀ n a = (a ≤ length docs) × ((strip : Bool) → n + sizeFrom strip a docs scores ≡ 8 + sizeFrom strip 0 docs scores)
+invariant-loop docs scores n₀ a₀ n a = (a ≤ length docs) × ((strip : Bool) → n + size_from strip a docs scores ≡ 8 + size_from strip 0 docs scores)
 
 abbrev decreases-loop : tie.decreases-loop
 decreases-loop docs scores n₀ a₀ n a = length docs - a
@@ -53,7 +53,7 @@ body-len-requires : tie.Need-body-len-requires invariant-loop decreases-loop
 body-len-requires c κs = let t = here c.before.before in (t.some, t.few, t.even)
 
 -- the whole is small
-small : (c : tie.After-body-len invariant-loop decreases-loop) → 8 + sizeFrom false 0 c.before.before.before.before.before.before.before.before.args.docs.now c.before.before.before.before.before.before.before.before.args.scores.now ≤ 45768
+small : (c : tie.After-body-len invariant-loop decreases-loop) → 8 + size_from false 0 c.before.before.before.before.before.before.before.before.args.docs.now c.before.before.before.before.before.before.before.before.args.scores.now ≤ 45768
 small c = omega (arith, size_small false c.before.before.before.before.before.before.before.before.args.docs.now c.before.before.before.before.before.before.before.before.args.scores.now)
 
 add-n : tie.Need-overflow-add-n invariant-loop decreases-loop
@@ -77,8 +77,8 @@ returns c strip t =
     let ss = c.before.before.before.before.args.scores.now in
     omega (arith, size-end strip c.before.loop.a ds ss c.loop-test.false, list-size strip t ds ss, c.before.loop.invariant.1 strip)
 
-pub list-len-spec : {M : Type 1} → statement M
-list-len-spec =
+pub list_len_spec : {M : Type 1} → statement M
+list_len_spec =
     tie.close
     (tie.spec
     invariant-loop

@@ -6,14 +6,14 @@ use lib.ListN.{length}
 use Rattle.model.specs.Post.{postings}
 use Rattle.model.proofs.Posts.{from}
 use Rattle.model.proofs.Storing.{Rest, rest-start, rest_end}
-use Rattle.list.specs.Write.{packed, bodiesBytes}
+use Rattle.list.specs.Write.{packed, bodies_bytes}
 use Rattle.list.proofs.Packing.{Turn, turn, bodies-room, bodies-on, bodies-end}
 use Rattle.list.proofs.write.put_bodies.Statement.{statement}
 use Rattle.list.proofs.write.put_bodies.Tie as tie
 
 abbrev invariant-loop : tie.invariant-loop
 invariant-loop out₀ at strip docs scores j₀ a₀ out j a =
-    (a ≤ length docs) × Rest out₀ out at j (bodiesBytes strip (packed 64 (postings docs scores))) (bodiesBytes strip (packed 64 (from a docs scores)))
+    (a ≤ length docs) × Rest out₀ out at j (bodies_bytes strip (packed 64 (postings docs scores))) (bodies_bytes strip (packed 64 (from a docs scores)))
 
 abbrev decreases-loop : tie.decreases-loop
 decreases-loop out₀ at strip docs scores j₀ a₀ out j a = length docs - a
@@ -75,8 +75,8 @@ returns c =
     let a = c.before.before.before.before.before.args in
     rest_end (bodies-end a.strip c.before.loop.a a.docs.now a.scores.now c.loop-test.false) c.before.loop.invariant.1
 
-pub put-bodies-spec : {M : Type 1} → statement M
-put-bodies-spec =
+pub put_bodies_spec : {M : Type 1} → statement M
+put_bodies_spec =
     tie.close
     (tie.spec
     invariant-loop

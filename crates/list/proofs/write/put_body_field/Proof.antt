@@ -5,11 +5,11 @@ use Prim.Native.Nat.{ℕ}
 use mathlib.Core.Path.{ap, ◌∙◌}
 use Rattle.model.specs.Post.{postings}
 use Rattle.model.proofs.Posts.{count_of}
-use Rattle.model.proofs.Storing.{stored-append, stored-as, stored-length}
+use Rattle.model.proofs.Storing.{stored-append, stored_as, stored-length}
 use Rattle.wire.proofs.Numbers.{be-length}
 use Rattle.wire.proofs.Fields.{field-size}
-use Rattle.wire.specs.Field.{fieldBytes}
-use Rattle.block.specs.Body.{tagOf, bodyBytes}
+use Rattle.wire.specs.Field.{field_bytes}
+use Rattle.block.specs.Body.{tag_of, body_bytes}
 use Rattle.list.proofs.Writes.{body-few}
 use Rattle.list.proofs.Packing.{field-parts}
 use Rattle.list.proofs.write.put_body_field.Statement.{statement}
@@ -30,14 +30,14 @@ cast-put-head c =
 put-head-requires : tie.Need-put-head-requires
 put-head-requires c κs =
     let a = c.before.before.before.before.before.before.args in
-    omega (arith, c.before.before.before.before.before.before.requires.3, field-size (tagOf a.strip) (bodyBytes a.strip (postings a.docs.now a.scores.now)))
+    omega (arith, c.before.before.before.before.before.before.requires.3, field-size (tag_of a.strip) (body_bytes a.strip (postings a.docs.now a.scores.now)))
 
 put-body-requires : tie.Need-put-body-requires
 put-body-requires c κs =
     let a = c.before.before.before.before.before.before.before.before.before.before.args in
     let q = c.before.before.before.before.before.before.before.before.before.before.requires in
     let h = c.before.before.before.put-head.ensures in
-    (q.0, q.2, omega (arith, h.past, stored-length h, be-length 2 c.before.before.before.before.before.before.body-len.result, field-size (tagOf a.strip) (bodyBytes a.strip (postings a.docs.now a.scores.now)), q.3))
+    (q.0, q.2, omega (arith, h.past, stored-length h, be-length 2 c.before.before.before.before.before.before.body-len.result, field-size (tag_of a.strip) (body_bytes a.strip (postings a.docs.now a.scores.now)), q.3))
 
 same_length : tie.Need-same-length
 same_length c = search rules
@@ -47,12 +47,12 @@ returns c =
     let a = c.before.before.before.before.before.before.before.before.before.before.before.before.before.args in
     let n = c.before.before.before.before.before.before.before.before.before.body-len in
     let t = c.before.before.before.before.before.before.before.tag_of in
-    let v = bodyBytes a.strip (postings a.docs.now a.scores.now) in
-    stored-as (field-parts t.result n.result v (n.ensures a.strip) ∙ ap (λ (x : ℕ). fieldBytes x v) t.ensures)
+    let v = body_bytes a.strip (postings a.docs.now a.scores.now) in
+    stored_as (field-parts t.result n.result v (n.ensures a.strip) ∙ ap (λ (x : ℕ). field_bytes x v) t.ensures)
     (stored-append c.before.before.before.before.before.before.put-head.ensures c.before.before.put-body.ensures)
 
-pub put-body-field-spec : {M : Type 1} → statement M
-put-body-field-spec =
+pub put_body_field_spec : {M : Type 1} → statement M
+put_body_field_spec =
     tie.close
     (tie.spec
     body-len-requires

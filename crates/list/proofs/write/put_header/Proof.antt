@@ -1,9 +1,9 @@
 -- `list::put_header` meets its contract: three stores, one after the other. Assumes nothing.
 use borrow.Author.Rules.{rules}
 use native.Mathlib.Omega.{arith}
-use Rattle.model.proofs.Storing.{stored-append, stored-as, stored-length}
+use Rattle.model.proofs.Storing.{stored-append, stored_as, stored-length}
 use Rattle.wire.proofs.Numbers.{be-length}
-use Rattle.list.proofs.Packing.{header-parts}
+use Rattle.list.proofs.Packing.{header_parts}
 use Rattle.list.proofs.write.put_header.Statement.{statement}
 use Rattle.list.proofs.write.put_header.Tie as tie
 
@@ -27,11 +27,11 @@ same_length c = search rules
 returns : tie.Need-returns
 returns c =
     let a = c.before.before.before.before.before.before.before.before.before.before.before.before.before.args in
-    stored-as (header-parts a.term a.count)
+    stored_as (header_parts a.term a.count)
     (stored-append c.before.before.before.before.before.before.before.before.before.before.put-head.ensures (stored-append c.before.before.before.before.before.before.put4.ensures c.before.before.put1.ensures))
 
-pub put-header-spec : {M : Type 1} → statement M
-put-header-spec =
+pub put_header_spec : {M : Type 1} → statement M
+put_header_spec =
     tie.close
     (tie.spec
     put-head-requires

@@ -5,8 +5,8 @@ use Prim.Native.Nat.{◌+◌, ◌-◌, ◌/◌}
 use lib.ListN.{length}
 use Rattle.model.specs.Post.{postings}
 use Rattle.model.proofs.Posts.{count_of}
-use Rattle.model.proofs.Storing.{stored-append, stored-as, stored-length}
-use Rattle.list.proofs.Packing.{packed-count, header-past, list-room, list-parts}
+use Rattle.model.proofs.Storing.{stored-append, stored_as, stored-length}
+use Rattle.list.proofs.Packing.{packed-count, header_past, list-room, list-parts}
 use Rattle.list.proofs.write.put_list.Statement.{statement}
 use Rattle.list.proofs.write.put_list.Tie as tie
 
@@ -36,14 +36,14 @@ put-summaries-requires : tie.Need-put-summaries-requires
 put-summaries-requires c κs =
     let b = c.before.before.before.before.before.before.before.before in
     let h = c.before.before.before.put-header.ensures in
-    (b.requires.0, omega (arith, list-room b.args.strip b.args.term (postings b.args.docs.now b.args.scores.now), b.requires.1, header-past b.args.term ((length b.args.docs.now + 100 - 1) / 100) h, stored-length h))
+    (b.requires.0, omega (arith, list-room b.args.strip b.args.term (postings b.args.docs.now b.args.scores.now), b.requires.1, header_past b.args.term ((length b.args.docs.now + 100 - 1) / 100) h, stored-length h))
 
 put-bodies-requires : tie.Need-put-bodies-requires
 put-bodies-requires c κs =
     let b = c.before.before.before.before.before.before.before.before.before.before.before.before in
     let h = c.before.before.before.before.before.before.before.put-header.ensures in
     let s = c.before.before.before.put-summaries.ensures in
-    (b.requires.0, omega (arith, list-room b.args.strip b.args.term (postings b.args.docs.now b.args.scores.now), b.requires.1, header-past b.args.term ((length b.args.docs.now + 100 - 1) / 100) h, stored-length h, s.past, stored-length s))
+    (b.requires.0, omega (arith, list-room b.args.strip b.args.term (postings b.args.docs.now b.args.scores.now), b.requires.1, header_past b.args.term ((length b.args.docs.now + 100 - 1) / 100) h, stored-length h, s.past, stored-length s))
 
 same_length : tie.Need-same-length
 same_length c = search rules
@@ -53,12 +53,12 @@ returns c =
     let b = c.before.before.before.before.before.before.before.before.before.before.before.before.before.before.before in
     let ps = postings b.args.docs.now b.args.scores.now in
     let n = count_of b.args.docs.now b.args.scores.now b.requires.0.same in
-    stored-as (list-parts b.args.strip b.args.term _ ps (omega (arith, n, packed-count 64 ps b.requires.0.may.few)))
+    stored_as (list-parts b.args.strip b.args.term _ ps (omega (arith, n, packed-count 64 ps b.requires.0.may.few)))
     (stored-append c.before.before.before.before.before.before.before.before.before.before.put-header.ensures
     (stored-append c.before.before.before.before.before.before.put-summaries.ensures c.before.before.put-bodies.ensures))
 
-pub put-list-spec : {M : Type 1} → statement M
-put-list-spec =
+pub put_list_spec : {M : Type 1} → statement M
+put_list_spec =
     tie.close
     (tie.spec
     cast-full

@@ -6,16 +6,16 @@ use native.Mathlib.Omega.{arith}
 use lib.ListN.{length}
 use Rattle.model.specs.Post.{postings}
 use Rattle.model.proofs.Posts.{from}
-use Rattle.model.proofs.Storing.{Rest, rest-start, rest-turn, rest_end, stored-as}
-use Rattle.block.specs.Summary.{sumBytes}
-use Rattle.list.specs.Write.{packed, sumsBytes}
+use Rattle.model.proofs.Storing.{Rest, rest-start, rest-turn, rest_end, stored_as}
+use Rattle.block.specs.Summary.{sum_bytes}
+use Rattle.list.specs.Write.{packed, sums_bytes}
 use Rattle.list.proofs.Packing.{Turn, turn, fits-turn, sums-turn, sums-room, sums-end}
 use Rattle.list.proofs.write.put_summaries.Statement.{statement}
 use Rattle.list.proofs.write.put_summaries.Tie as tie
 
 abbrev invariant-loop : tie.invariant-loop
 invariant-loop out₀ at strip docs scores j₀ a₀ out j a =
-    (a ≤ length docs) × Rest out₀ out at j (sumsBytes strip (packed 64 (postings docs scores))) (sumsBytes strip (packed 64 (from a docs scores)))
+    (a ≤ length docs) × Rest out₀ out at j (sums_bytes strip (packed 64 (postings docs scores))) (sums_bytes strip (packed 64 (from a docs scores)))
 
 abbrev decreases-loop : tie.decreases-loop
 decreases-loop out₀ at strip docs scores j₀ a₀ out j a = length docs - a
@@ -72,7 +72,7 @@ loop-again : tie.Need-loop-preserved invariant-loop decreases-loop
 loop-again c =
     let t = here c.before.before.before.before.before.before.before in
     let i = c.before.before.before.before.before.before.before.before.before.loop.invariant.1 in
-    (t.within, rest-turn _ _ (sums-turn c.before.before.before.before.before.before.before.before.before.before.before.before.before.args.strip t) i (stored-as (ap sumBytes c.before.before.before.before.summary-of.ensures) c.before.before.put-summary.ensures))
+    (t.within, rest-turn _ _ (sums-turn c.before.before.before.before.before.before.before.before.before.before.before.before.before.args.strip t) i (stored_as (ap sum_bytes c.before.before.before.before.summary-of.ensures) c.before.before.put-summary.ensures))
 
 same_length : tie.Need-same-length invariant-loop decreases-loop
 same_length c = search rules
@@ -82,8 +82,8 @@ returns c =
     let a = c.before.before.before.before.before.args in
     rest_end (sums-end a.strip c.before.loop.a a.docs.now a.scores.now c.loop-test.false) c.before.loop.invariant.1
 
-pub put-summaries-spec : {M : Type 1} → statement M
-put-summaries-spec =
+pub put_summaries_spec : {M : Type 1} → statement M
+put_summaries_spec =
     tie.close
     (tie.spec
     invariant-loop

@@ -6,9 +6,9 @@ use mathlib.Core.Bool.{true, false}
 use native.Mathlib.Omega.{arith}
 use borrow.Author.Tests.{not-true, not-false}
 use lib.ListN.{length, drop}
-use Rattle.lookup.specs.Show.{bodiesFrom, hasBlock}
+use Rattle.lookup.specs.Show.{bodies_from, has_block}
 use Rattle.lookup.specs.declared.find.Shown.TheVariants as shown
-use Rattle.lookup.proofs.Shows.{has-facts, body-here, body-cut, body-none, body_refused}
+use Rattle.lookup.proofs.Shows.{has_facts, body-here, body-cut, body-none, body_refused}
 use Rattle.shelf.specs.Walk.{bodies}
 use Rattle.shelf.specs.Answers.{place_of}
 use Rattle.shelf.specs.declared.walk.PlaceRead.TheVariants.{Past, Refused}
@@ -26,15 +26,15 @@ returns c =
     let a = c.before.before.before.before.before.before.args in
     let p = c.before.before.before.shown.given.0.0 in
     let f : a.shown ≡ shown.List p = cc in
-    let e : hasBlock a.s.now p a.j ≡ false = sym c.before.has_block.ensures ∙ not-true c.before.has_block.result c.if1.true in
+    let e : has_block a.s.now p a.j ≡ false = sym c.before.has_block.ensures ∙ not-true c.before.has_block.result c.if1.true in
     rw f (sym (body-none a.s.now p a.j e))
 
 -- the list has the block
-has : (c : tie.Else1) → let a = c.before.before.before.before.before.before.args in hasBlock a.s.now c.before.before.before.shown.given.0.0 a.j ≡ true
+has : (c : tie.Else1) → let a = c.before.before.before.before.before.before.args in has_block a.s.now c.before.before.before.shown.given.0.0 a.j ≡ true
 has c = sym c.before.has_block.ensures ∙ not-false c.before.has_block.result c.if1.false
 
-fits : (c : tie.Else1) → let a = c.before.before.before.before.before.before.args in (a.j < c.before.before.before.shown.given.0.0.count) × (bodiesFrom c.before.before.before.shown.given.0.0 ≤ length a.s.now)
-fits c = let a = c.before.before.before.before.before.before.args in has-facts a.s.now c.before.before.before.shown.given.0.0 a.j (has c)
+fits : (c : tie.Else1) → let a = c.before.before.before.before.before.before.args in (a.j < c.before.before.before.shown.given.0.0.count) × (bodies_from c.before.before.before.shown.given.0.0 ≤ length a.s.now)
+fits c = let a = c.before.before.before.before.before.before.args in has_facts a.s.now c.before.before.before.shown.given.0.0 a.j (has c)
 
 add-bodies-at : tie.Need-overflow-add-bodies-at
 add-bodies-at c = omega (arith, (fits c.before).1)
@@ -71,7 +71,7 @@ returns-2 c =
     let a = c.before.before.before.before.before.before.before.before.before.before.before.before.before.args in
     let p = c.before.before.before.before.before.before.before.before.before.before.shown.given.0.0 in
     let f : a.shown ≡ shown.List p = cc in
-    let q : place_of (bodies a.j (bodiesFrom p) (drop (bodiesFrom p) a.s.now)) ≡ Past c.before.before.b.given.0.0 = cc in
+    let q : place_of (bodies a.j (bodies_from p) (drop (bodies_from p) a.s.now)) ≡ Past c.before.before.b.given.0.0 = cc in
     rw (f, body-here a.s.now p a.j (has c.before.before.before.before.before.before.before) c.before.before.b.given.0.0 q) c.part_at.ensures
 
 returns-3 : tie.Need-returns-3
@@ -80,7 +80,7 @@ returns-3 c =
     let p = c.before.before.before.before.before.before.before.before.before.shown.given.0.0 in
     let k = c.before.n.given in
     let f : a.shown ≡ shown.List p = cc in
-    let q : place_of (bodies a.j (bodiesFrom p) (drop (bodiesFrom p) a.s.now)) ≡ Refused k.0.0 k.0.1.0 = cc in
+    let q : place_of (bodies a.j (bodies_from p) (drop (bodies_from p) a.s.now)) ≡ Refused k.0.0 k.0.1.0 = cc in
     rw (f, body-cut a.s.now p a.j (has c.before.before.before.before.before.before) k.0.0 k.0.1.0 q)
 
 returns-4 : tie.Need-returns-4
@@ -90,8 +90,8 @@ returns-4 c =
     let f : a.shown ≡ shown.Refused k.0.0 k.0.1.0 = cc in
     rw f (sym (body_refused a.s.now k.0.0 k.0.1.0 a.j))
 
-pub body-shown-spec : {M : Type 1} → statement M
-body-shown-spec =
+pub body_shown_spec : {M : Type 1} → statement M
+body_shown_spec =
     tie.close
     (tie.spec
     enum-known-shown

@@ -2,18 +2,18 @@
 -- Assumes nothing.
 use mathlib.Core.Path.{◌≡◌, sym, ap, ◌∙◌}
 use borrow.Author.Rules.{rules}
-use Rattle.lookup.specs.Find.{found, shownOf}
-use Rattle.shelf.specs.Cursor.{walkStep, listsAt}
+use Rattle.lookup.specs.Find.{found, shown_of}
+use Rattle.shelf.specs.Cursor.{walk_step, lists_at}
 use Rattle.shelf.specs.declared.walk.Walk.{Walk}
 use Rattle.lookup.specs.declared.find.Shown.TheVariants as shown
 use Rattle.shelf.specs.declared.walk.WalkStep.TheVariants as step
 use Rattle.shelf.proofs.Steps.{Turn, turn, walk_end, walk-fault}
-use Rattle.lookup.proofs.Finds.{shownFrom, shown-turn, found-start}
+use Rattle.lookup.proofs.Finds.{shown_from, shown-turn, found-start}
 use Rattle.lookup.proofs.find.find_list.Statement.{statement}
 use Rattle.lookup.proofs.find.find_list.Tie as tie
 
 abbrev invariant-loop : tie.invariant-loop
-invariant-loop s term w₀ known₀ w known = shownOf (found term s) ≡ shownFrom known term (listsAt s w)
+invariant-loop s term w₀ known₀ w known = shown_of (found term s) ≡ shown_from known term (lists_at s w)
 
 abbrev decreases-loop : tie.decreases-loop
 decreases-loop s term w₀ known₀ w known = w.left
@@ -25,7 +25,7 @@ loop-holds : tie.Need-loop-init invariant-loop decreases-loop
 loop-holds c =
     let s = c.before.before.args.s.now in
     let t = c.before.before.args.term in
-    found-start t s ∙ ap (λ (x : Walk). shownFrom (shown.Refused 12 0) t (listsAt s x)) (sym c.new.ensures)
+    found-start t s ∙ ap (λ (x : Walk). shown_from (shown.Refused 12 0) t (lists_at s x)) (sym c.new.ensures)
 
 next-requires : tie.Need-next-requires invariant-loop decreases-loop
 next-requires c κs = search rules
@@ -39,7 +39,7 @@ stepped : (c : tie.After-known-told invariant-loop decreases-loop) →
 stepped c =
     let s = c.before.before.before.before.before.before.before.args.s.now in
     let w = c.before.before.before.before.loop.w in
-    let f : walkStep s w ≡ step.List c.before.p.given.0.0 c.before.p.given.0.1.0 = cc in
+    let f : walk_step s w ≡ step.List c.before.p.given.0.0 c.before.p.given.0.1.0 = cc in
     turn s w c.before.p.given.0.0 c.before.p.given.0.1.0 f
 
 here-or-requires : tie.Need-here-or-requires invariant-loop decreases-loop
@@ -66,7 +66,7 @@ returns : tie.Need-returns invariant-loop decreases-loop
 returns c =
     let l = c.before.before.before.loop in
     let s = c.before.before.before.before.before.before.args.s.now in
-    let f : walkStep s l.w ≡ step.End = cc in
+    let f : walk_step s l.w ≡ step.End = cc in
     rw (l.invariant, walk_end s l.w f)
 
 enum-known-n : tie.Need-enum-known-n invariant-loop decreases-loop
@@ -76,11 +76,11 @@ returns-2 : tie.Need-returns-2 invariant-loop decreases-loop
 returns-2 c =
     let l = c.before.before.before.before.loop in
     let s = c.before.before.before.before.before.before.before.args.s.now in
-    let f : walkStep s l.w ≡ step.Fault c.before.n.given.0.0 c.before.n.given.0.1.0 = cc in
+    let f : walk_step s l.w ≡ step.Fault c.before.n.given.0.0 c.before.n.given.0.1.0 = cc in
     rw (l.invariant, walk-fault s l.w c.before.n.given.0.0 c.before.n.given.0.1.0 f)
 
-pub find-list-spec : {M : Type 1} → statement M
-find-list-spec =
+pub find_list_spec : {M : Type 1} → statement M
+find_list_spec =
     tie.close
     (tie.spec
     invariant-loop

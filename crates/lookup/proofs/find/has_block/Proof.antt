@@ -27,6 +27,6 @@ returns-3 : tie.Need-returns-3
 returns-3 c =
     let a = c.before.before.before.before.args in has_room a.s.now a.list a.j c.before.before.if1.false c.before.if2.false
 
-pub has-block-spec : {M : Type 1} → statement M
-has-block-spec =
+pub has_block_spec : {M : Type 1} → statement M
+has_block_spec =
     tie.close (tie.spec cast-count mul-room add-room returns returns-2 sub-result returns-3)

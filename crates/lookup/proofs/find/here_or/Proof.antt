@@ -31,5 +31,5 @@ returns-3 c =
     let f : a.known ≡ shown.Refused k.0.0 k.0.1.0 = cc in
     rw (f, ne_eqb a.list.term a.term c.if1.false)
 
-pub here-or-spec : {M : Type 1} → statement M
-here-or-spec = tie.close (tie.spec enum-known-known enum-known-known-2 returns returns-2 returns-3)
+pub here_or_spec : {M : Type 1} → statement M
+here_or_spec = tie.close (tie.spec enum-known-known enum-known-known-2 returns returns-2 returns-3)

@@ -7,7 +7,7 @@ use lib.ListN.{length, drop}
 use Rattle.wire.specs.Field.{field_at}
 use Rattle.wire.specs.declared.field.FieldRead.TheVariants.{Whole, Missing}
 use Rattle.wire.proofs.Fields.{field_room}
-use Rattle.block.specs.Body.{isStrip, tagOf}
+use Rattle.block.specs.Body.{is_strip, tag_of}
 use Rattle.lookup.proofs.Shows.{part-there, part_none}
 use Rattle.lookup.proofs.find.part_at.Statement.{statement}
 use Rattle.lookup.proofs.find.part_at.Tie as tie
@@ -26,7 +26,7 @@ enum-known-len c = search rules
 
 -- the tag that is asked for, and the field that the call found
 abbrev tag : (c : tie.After-tag-of) → ℕ
-tag c = let a = c.before.before.before.args in tagOf (isStrip (drop a.at a.s.now))
+tag c = let a = c.before.before.before.args in tag_of (is_strip (drop a.at a.s.now))
 
 there : (c : tie.After-known-told) → let a = c.before.before.before.before.before.before.before.args in field_at (tag c.before.before.before.before) a.s.now a.at ≡ Whole c.before.len.given.0.0
 there c = cc
@@ -56,8 +56,8 @@ returns-2 c =
     let f : field_at (tag c.before.before.before) a.s.now a.at ≡ Missing = cc in
     sym (part_none a.s.now a.at f)
 
-pub part-at-spec : {M : Type 1} → statement M
-part-at-spec =
+pub part_at_spec : {M : Type 1} → statement M
+part_at_spec =
     tie.close
     (tie.spec
     is-strip-requires

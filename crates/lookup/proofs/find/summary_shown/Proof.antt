@@ -6,9 +6,9 @@ use mathlib.Core.Bool.{true, false}
 use native.Mathlib.Omega.{arith}
 use borrow.Author.Tests.{not-true, not-false}
 use lib.ListN.{length}
-use Rattle.lookup.specs.Show.{bodiesFrom, hasBlock}
+use Rattle.lookup.specs.Show.{bodies_from, has_block}
 use Rattle.lookup.specs.declared.find.Shown.TheVariants as shown
-use Rattle.lookup.proofs.Shows.{has-facts, summary-here, summary-none, summary-refused}
+use Rattle.lookup.proofs.Shows.{has_facts, summary-here, summary-none, summary-refused}
 use Rattle.lookup.proofs.find.summary_shown.Statement.{statement}
 use Rattle.lookup.proofs.find.summary_shown.Tie as tie
 
@@ -23,15 +23,15 @@ returns c =
     let a = c.before.before.before.before.before.before.args in
     let p = c.before.before.before.shown.given.0.0 in
     let f : a.shown ≡ shown.List p = cc in
-    let e : hasBlock a.s.now p a.j ≡ false = sym c.before.has_block.ensures ∙ not-true c.before.has_block.result c.if1.true in
+    let e : has_block a.s.now p a.j ≡ false = sym c.before.has_block.ensures ∙ not-true c.before.has_block.result c.if1.true in
     rw f (sym (summary-none a.s.now p a.j e))
 
 -- the list has the block
-has : (c : tie.Else1) → let a = c.before.before.before.before.before.before.args in hasBlock a.s.now c.before.before.before.shown.given.0.0 a.j ≡ true
+has : (c : tie.Else1) → let a = c.before.before.before.before.before.before.args in has_block a.s.now c.before.before.before.shown.given.0.0 a.j ≡ true
 has c = sym c.before.has_block.ensures ∙ not-false c.before.has_block.result c.if1.false
 
-fits : (c : tie.Else1) → let a = c.before.before.before.before.before.before.args in (a.j < c.before.before.before.shown.given.0.0.count) × (bodiesFrom c.before.before.before.shown.given.0.0 ≤ length a.s.now)
-fits c = let a = c.before.before.before.before.before.before.args in has-facts a.s.now c.before.before.before.shown.given.0.0 a.j (has c)
+fits : (c : tie.Else1) → let a = c.before.before.before.before.before.before.args in (a.j < c.before.before.before.shown.given.0.0.count) × (bodies_from c.before.before.before.shown.given.0.0 ≤ length a.s.now)
+fits c = let a = c.before.before.before.before.before.before.args in has_facts a.s.now c.before.before.before.shown.given.0.0 a.j (has c)
 
 add-is-strip : tie.Need-overflow-add-is-strip
 add-is-strip c = omega (arith, (fits c.before).1)
@@ -77,8 +77,8 @@ returns-3 c =
     let f : a.shown ≡ shown.Refused k.0.0 k.0.1.0 = cc in
     rw f (sym (summary-refused a.s.now k.0.0 k.0.1.0 a.j))
 
-pub summary-shown-spec : {M : Type 1} → statement M
-summary-shown-spec =
+pub summary_shown_spec : {M : Type 1} → statement M
+summary_shown_spec =
     tie.close
     (tie.spec
     enum-known-shown

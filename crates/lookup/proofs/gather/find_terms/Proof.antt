@@ -1,10 +1,10 @@
 -- `lookup::gather::find_terms` meets its contract. The invariant: the lists passed, and what is noted of them. Assumes nothing.
 use mathlib.Core.Path.{◌≡◌}
 use borrow.Author.Rules.{rules}
-use Rattle.shelf.specs.Cursor.{walkStep}
+use Rattle.shelf.specs.Cursor.{walk_step}
 use Rattle.shelf.specs.declared.walk.WalkStep.TheVariants as step
 use Rattle.shelf.proofs.Steps.{Turn, turn}
-use Rattle.lookup.proofs.Gathers.{Noting, noting-start, noting-turn, noting-sizes, noting-end, noting-fault}
+use Rattle.lookup.proofs.Gathers.{Noting, noting_start, noting_turn, noting_sizes, noting_end, noting_fault}
 use Rattle.lookup.proofs.gather.find_terms.Statement.{statement}
 use Rattle.lookup.proofs.gather.find_terms.Tie as tie
 
@@ -20,7 +20,7 @@ new-requires c κs = search rules
 loop-holds : tie.Need-loop-init invariant-loop decreases-loop
 loop-holds c =
     let a = c.before.before.args in
-    noting-start a.s.now a.t2 a.n c.new.result c.new.ensures (search rules) (search rules)
+    noting_start a.s.now a.t2 a.n c.new.result c.new.ensures (search rules) (search rules)
 
 next-requires : tie.Need-next-requires invariant-loop decreases-loop
 next-requires c κs = search rules
@@ -34,14 +34,14 @@ found c =
     let s = c.before.before.before.before.before.before.before.args.s.now in
     let w = c.before.before.before.before.loop.w in
     let k = c.before.p.given in
-    let f : walkStep s w ≡ step.List k.0.0 k.0.1.0 = cc in
+    let f : walk_step s w ≡ step.List k.0.0 k.0.1.0 = cc in
     turn s w k.0.0 k.0.1.0 f
 
 note-requires : tie.Need-note-requires invariant-loop decreases-loop
 note-requires c κs =
     let a = c.before.before.before.before.before.before.before.before.before.before.args in
     let l = c.before.before.before.before.before.before.before.loop in
-    let z = noting-sizes a.s.now a.t2 a.n l.ats l.counts l.w l.invariant (search rules) (search rules) in
+    let z = noting_sizes a.s.now a.t2 a.n l.ats l.counts l.w l.invariant (search rules) (search rules) in
     (search rules, search rules, z.0, z.1)
 
 loop-less : tie.Need-loop-smaller invariant-loop decreases-loop
@@ -52,7 +52,7 @@ loop-again c =
     let a = c.before.before.before.before.before.before.before.before.before.before.before.args in
     let l = c.before.before.before.before.before.before.before.before.loop in
     let k = c.before.before.before.before.before.p.given in
-    noting-turn a.s.now a.t2 a.n l.ats l.counts c.note.new.1.1.1.0 c.note.new.1.1.1.1.0 l.w k.0.1.0 k.0.0 (found c.before.before.before.before) c.note.ensures l.invariant
+    noting_turn a.s.now a.t2 a.n l.ats l.counts c.note.new.1.1.1.0 c.note.new.1.1.1.1.0 l.w k.0.1.0 k.0.0 (found c.before.before.before.before) c.note.ensures l.invariant
 
 enum_told : tie.Need-enum-told invariant-loop decreases-loop
 enum_told c = search rules
@@ -61,8 +61,8 @@ returns : tie.Need-returns invariant-loop decreases-loop
 returns c =
     let a = c.before.before.before.before.before.before.args in
     let l = c.before.before.before.loop in
-    let f : walkStep a.s.now l.w ≡ step.End = cc in
-    noting-end a.s.now a.t2 a.n l.ats l.counts l.w l.invariant f
+    let f : walk_step a.s.now l.w ≡ step.End = cc in
+    noting_end a.s.now a.t2 a.n l.ats l.counts l.w l.invariant f
 
 enum-known-k : tie.Need-enum-known-k invariant-loop decreases-loop
 enum-known-k c = search rules
@@ -72,11 +72,11 @@ returns-2 c =
     let a = c.before.before.before.before.before.before.before.args in
     let l = c.before.before.before.before.loop in
     let k = c.before.k.given in
-    let f : walkStep a.s.now l.w ≡ step.Fault k.0.0 k.0.1.0 = cc in
-    noting-fault a.s.now a.t2 a.n l.ats l.counts l.w l.invariant k.0.0 k.0.1.0 f
+    let f : walk_step a.s.now l.w ≡ step.Fault k.0.0 k.0.1.0 = cc in
+    noting_fault a.s.now a.t2 a.n l.ats l.counts l.w l.invariant k.0.0 k.0.1.0 f
 
-pub find-terms-spec : {M : Type 1} → statement M
-find-terms-spec =
+pub find_terms_spec : {M : Type 1} → statement M
+find_terms_spec =
     tie.close
     (tie.spec
     invariant-loop

@@ -4,7 +4,7 @@ use native.Mathlib.Omega.{arith}
 use mathlib.Core.Path.{◌≡◌}
 use borrow.Author.Rules.{rules}
 use Rattle.lookup.specs.Table.{runs}
-use Rattle.lookup.proofs.Tables.{Gathering, gathering-start, gathering-layable, gathering-turn, gathering-end}
+use Rattle.lookup.proofs.Tables.{Gathering, gathering_start, gathering_layable, gathering_turn, gathering_end}
 use Rattle.lookup.proofs.gather.gather.Statement.{statement}
 use Rattle.lookup.proofs.gather.gather.Tie as tie
 
@@ -19,7 +19,7 @@ decreases-loop s n ats sizes ends₀ los₀ his₀ tops₀ counts₀ bodies₀ a
 loop-holds : tie.Need-loop-init invariant-loop decreases-loop
 loop-holds c =
     let a = c.before.before.before.args in
-    (search rules, gathering-start a.s.now a.found.ats a.found.counts)
+    (search rules, gathering_start a.s.now a.found.ats a.found.counts)
 
 mul_at : tie.Need-overflow-mul-at invariant-loop decreases-loop
 mul_at c = search rules
@@ -34,7 +34,7 @@ lay-list-requires : tie.Need-lay-list-requires invariant-loop decreases-loop
 lay-list-requires c κs =
     let a = c.before.before.before.before.before.before.before.before.before.before.args in
     let l = c.before.before.before.before.before.before.loop in
-    gathering-layable a.s.now a.found.ats a.found.counts a.n l.t l.all l.ends (runs l.los l.his l.tops l.counts l.bodies) c.before.before.before.before.before.before.before.before.before.before.requires (omega arith) l.invariant.1
+    gathering_layable a.s.now a.found.ats a.found.counts a.n l.t l.all l.ends (runs l.los l.his l.tops l.counts l.bodies) c.before.before.before.before.before.before.before.before.before.before.requires (omega arith) l.invariant.1
 
 mul-ends : tie.Need-overflow-mul-ends invariant-loop decreases-loop
 mul-ends c = search rules
@@ -52,17 +52,17 @@ loop-again : tie.Need-loop-preserved invariant-loop decreases-loop
 loop-again c =
     let a = c.before.before.before.before.before.before.before.before.before.before.before.args in
     let l = c.before.before.before.before.before.before.before.loop in
-    (search rules, gathering-turn a.s.now a.found.ats a.found.counts a.n l.t l.all l.ends (runs l.los l.his l.tops l.counts l.bodies) c.before.before.before.before.before.before.before.before.before.before.before.requires (omega arith) l.invariant.1 c.lay-list.result (runs c.lay-list.new.1.1.1.1.0 c.lay-list.new.1.1.1.1.1.0 c.lay-list.new.1.1.1.1.1.1.0 c.lay-list.new.1.1.1.1.1.1.1.0 c.lay-list.new.1.1.1.1.1.1.1.1.0) c.lay-list.ensures)
+    (search rules, gathering_turn a.s.now a.found.ats a.found.counts a.n l.t l.all l.ends (runs l.los l.his l.tops l.counts l.bodies) c.before.before.before.before.before.before.before.before.before.before.before.requires (omega arith) l.invariant.1 c.lay-list.result (runs c.lay-list.new.1.1.1.1.0 c.lay-list.new.1.1.1.1.1.0 c.lay-list.new.1.1.1.1.1.1.0 c.lay-list.new.1.1.1.1.1.1.1.0 c.lay-list.new.1.1.1.1.1.1.1.1.0) c.lay-list.ensures)
 
 returns : tie.Need-returns invariant-loop decreases-loop
 returns c =
     let a = c.before.before.before.before.before.args in
     let l = c.before.loop in
     let e : l.t ≡ a.n = omega arith in
-    gathering-end a.s.now a.found.ats a.found.counts a.n l.all l.ends (runs l.los l.his l.tops l.counts l.bodies) c.before.before.before.before.before.requires.terms (rw e at l.invariant.1)
+    gathering_end a.s.now a.found.ats a.found.counts a.n l.all l.ends (runs l.los l.his l.tops l.counts l.bodies) c.before.before.before.before.before.requires.terms (rw e at l.invariant.1)
 
-pub gather-spec : {M : Type 1} → statement M
-gather-spec =
+pub gather_spec : {M : Type 1} → statement M
+gather_spec =
     tie.close
     (tie.spec
     invariant-loop

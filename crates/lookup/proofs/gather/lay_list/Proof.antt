@@ -3,17 +3,17 @@ use Prim.Native.Nat.{◌<◌}
 use native.Mathlib.Omega.{arith}
 use mathlib.Core.Path.{◌≡◌}
 use borrow.Author.Rules.{rules}
-use Rattle.shelf.specs.Walk.{blocksAt}
+use Rattle.shelf.specs.Walk.{blocks_at}
 use Rattle.shelf.specs.Blocks.{Steps}
-use Rattle.lookup.specs.Table.{maxBlocks, runs}
+use Rattle.lookup.specs.Table.{max_blocks, runs}
 use Rattle.shelf.specs.declared.blocks.BlockStep.TheVariants.{Block, Last}
-use Rattle.lookup.proofs.Tables.{Laying, laying-start, laying-room, laying-turn, laying-end, lays-none}
+use Rattle.lookup.proofs.Tables.{Laying, laying_start, laying_room, laying_turn, laying_end, lays_none}
 use Rattle.lookup.proofs.gather.lay_list.Statement.{statement}
 use Rattle.lookup.proofs.gather.lay_list.Tie as tie
 
 abbrev invariant-loop : tie.invariant-loop
 invariant-loop s at count j los₀ his₀ tops₀ counts₀ bodies₀ sum r₀ i₀ los his tops counts bodies r i =
-    Laying s (blocksAt s at count) j i r (runs los₀ his₀ tops₀ counts₀ bodies₀) (runs los his tops counts bodies)
+    Laying s (blocks_at s at count) j i r (runs los₀ his₀ tops₀ counts₀ bodies₀) (runs los his tops counts bodies)
 
 abbrev decreases-loop : tie.decreases-loop
 decreases-loop s at count j los₀ his₀ tops₀ counts₀ bodies₀ sum r₀ i₀ los his tops counts bodies r i = r.left
@@ -21,7 +21,7 @@ decreases-loop s at count j los₀ his₀ tops₀ counts₀ bodies₀ sum r₀ i
 returns : tie.Need-returns invariant-loop decreases-loop
 returns c =
     let a = c.before.before.args in
-    lays-none a.s.now a.at a.count a.j (runs a.los.now a.his.now a.tops.now a.counts.now a.bodies.now) c.if1.true
+    lays_none a.s.now a.at a.count a.j (runs a.los.now a.his.now a.tops.now a.counts.now a.bodies.now) c.if1.true
 
 add-sum : tie.Need-overflow-add-sum invariant-loop decreases-loop
 add-sum c = omega (arith, (c.before.before.requires.ready (omega arith)).1.room)
@@ -35,7 +35,7 @@ add-t20 c = omega (arith, (c.before.before.requires.ready (omega arith)).1.room)
 loop-holds : tie.Need-loop-init invariant-loop decreases-loop
 loop-holds c =
     let a = c.before.before.args in
-    laying-start a.s.now a.at a.count a.j (runs a.los.now a.his.now a.tops.now a.counts.now a.bodies.now) c.before.before.requires c.if1.false
+    laying_start a.s.now a.at a.count a.j (runs a.los.now a.his.now a.tops.now a.counts.now a.bodies.now) c.before.before.requires c.if1.false
 
 next-requires : tie.Need-next-requires invariant-loop decreases-loop
 next-requires c κs = c.loop.invariant.rests
@@ -52,13 +52,13 @@ found c =
     let e : c.before.before.before.next.result ≡ Block k.0.0 k.0.1.0 k.0.1.1.0 k.0.1.1.1.0 = cc in
     rw e at c.before.before.before.next.ensures
 
-place : (c : tie.After-known-told invariant-loop decreases-loop) → c.before.before.before.before.loop.i < maxBlocks
+place : (c : tie.After-known-told invariant-loop decreases-loop) → c.before.before.before.before.loop.i < max_blocks
 place c =
     let a = c.before.before.before.before.before.before.before.args in
     let l = c.before.before.before.before.loop in
     let k = c.before.m.given in
     let f = found c in
-    laying-room a.s.now (blocksAt a.s.now a.at a.count) a.j l.i l.r (runs a.los.now a.his.now a.tops.now a.counts.now a.bodies.now) (runs l.los l.his l.tops l.counts l.bodies) l.invariant f.0 k.0.1.0 k.0.1.1.0 k.0.1.1.1.0 k.0.0 f.1 f.2
+    laying_room a.s.now (blocks_at a.s.now a.at a.count) a.j l.i l.r (runs a.los.now a.his.now a.tops.now a.counts.now a.bodies.now) (runs l.los l.his l.tops l.counts l.bodies) l.invariant f.0 k.0.1.0 k.0.1.1.0 k.0.1.1.1.0 k.0.0 f.1 f.2
 
 mul-los : tie.Need-overflow-mul-los invariant-loop decreases-loop
 mul-los c = omega (arith, place c)
@@ -105,7 +105,7 @@ loop-again c =
     let l = c.before.before.before.before.loop in
     let k = c.before.m.given in
     let f = found c in
-    laying-turn a.s.now (blocksAt a.s.now a.at a.count) a.j l.i l.r (runs a.los.now a.his.now a.tops.now a.counts.now a.bodies.now) (runs l.los l.his l.tops l.counts l.bodies) l.invariant f.0 k.0.1.0 k.0.1.1.0 k.0.1.1.1.0 k.0.0 f.1 f.2
+    laying_turn a.s.now (blocks_at a.s.now a.at a.count) a.j l.i l.r (runs a.los.now a.his.now a.tops.now a.counts.now a.bodies.now) (runs l.los l.his l.tops l.counts l.bodies) l.invariant f.0 k.0.1.0 k.0.1.1.0 k.0.1.1.1.0 k.0.0 f.1 f.2
 
 enum_told : tie.Need-enum-told invariant-loop decreases-loop
 enum_told c = search rules
@@ -116,10 +116,10 @@ returns-2 c =
     let l = c.before.before.before.loop in
     let e : c.before.before.next.result ≡ Last = cc in
     let f : Steps a.s.now l.r Last = rw e at c.before.before.next.ensures in
-    laying-end a.s.now (blocksAt a.s.now a.at a.count) a.j l.i l.r (runs a.los.now a.his.now a.tops.now a.counts.now a.bodies.now) (runs l.los l.his l.tops l.counts l.bodies) l.invariant f.0
+    laying_end a.s.now (blocks_at a.s.now a.at a.count) a.j l.i l.r (runs a.los.now a.his.now a.tops.now a.counts.now a.bodies.now) (runs l.los l.his l.tops l.counts l.bodies) l.invariant f.0
 
-pub lay-list-spec : {M : Type 1} → statement M
-lay-list-spec =
+pub lay_list_spec : {M : Type 1} → statement M
+lay_list_spec =
     tie.close
     (tie.spec
     invariant-loop

@@ -64,8 +64,8 @@ returns c =
     let e : l.i ≡ c.before.before.args.n = omega arith in
     record { ats = rw e at l.invariant.1; counts = rw e at l.invariant.2 }
 
-pub note-spec : {M : Type 1} → statement M
-note-spec =
+pub note_spec : {M : Type 1} → statement M
+note_spec =
     tie.close
     (tie.spec
     invariant-loop

@@ -1,7 +1,7 @@
 -- `body_at` meets its contract. Assumes nothing.
 use mathlib.Core.Path.{sym, ◌∙◌}
 use native.Mathlib.Omega.{arith}
-use Rattle.wire.proofs.Fields.{len-at, value-at}
+use Rattle.wire.proofs.Fields.{len_at, value-at}
 use borrow.Author.Rules.{rules}
 use Rattle.opening.proofs.enter.body_at.Statement.{statement}
 use Rattle.opening.proofs.enter.body_at.Tie as tie
@@ -30,15 +30,15 @@ part-result-start c = search rules
 part-result-end : tie.Need-slice-bounds-result-end
 part-result-end c =
     let a = c.before.before.args in
-    omega (arith, c.be2.ensures, len-at a.s.now a.at)
+    omega (arith, c.be2.ensures, len_at a.s.now a.at)
 
 returns : tie.Need-returns
 returns c =
     let a = c.before.before.before.args in
-    value-at a.s.now a.at _ (c.before.be2.ensures ∙ sym (len-at a.s.now a.at))
+    value-at a.s.now a.at _ (c.before.be2.ensures ∙ sym (len_at a.s.now a.at))
 
-pub body-at-spec : {M : Type 1} → statement M
-body-at-spec =
+pub body_at_spec : {M : Type 1} → statement M
+body_at_spec =
     tie.close
     (tie.spec
     add_start

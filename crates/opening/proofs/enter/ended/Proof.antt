@@ -15,5 +15,5 @@ returns : tie.Need-returns
 unfolding head_of
 returns c = refl
 
-pub ended-spec : {M : Type 1} → statement M
-ended-spec = tie.close (tie.spec mul-t3 mul-t4 returns)
+pub ended_spec : {M : Type 1} → statement M
+ended_spec = tie.close (tie.spec mul-t3 mul-t4 returns)

@@ -1,6 +1,6 @@
 -- `enter` meets its contract, branch by branch. Assumes nothing.
 use native.Mathlib.Omega.{arith}
-use Rattle.opening.proofs.Enters.{enter-kept, enter-gap, enter-stands, enter-wrong}
+use Rattle.opening.proofs.Enters.{enter-kept, enter-gap, enter_stands, enter-wrong}
 use borrow.Author.Rules.{rules}
 use Rattle.opening.proofs.enter.enter.Statement.{statement}
 use Rattle.opening.proofs.enter.enter.Tie as tie
@@ -24,16 +24,16 @@ cast-at : tie.Need-overflow-cast-at
 cast-at c = omega (arith, c.shared-slice-known7.given c.before.before.before.before.before.before.before.before.before.args.met)
 
 mul-t20 : tie.Need-overflow-mul-t20
-mul-t20 c = let l = c.before.before.before.before.before.before.before.before.before.requires.1 c.before.if2.false in omega (arith, l.least-in)
+mul-t20 c = let l = c.before.before.before.before.before.before.before.before.before.requires.1 c.before.if2.false in omega (arith, l.least_in)
 
 shared-slice-read-t22 : tie.Need-shared-slice-read-t22
-shared-slice-read-t22 c = (c.before.before.before.before.before.before.before.before.before.before.requires.1 c.before.before.if2.false).least-in
+shared-slice-read-t22 c = (c.before.before.before.before.before.before.before.before.before.before.requires.1 c.before.before.if2.false).least_in
 
 mul-t24 : tie.Need-overflow-mul-t24
-mul-t24 c = let l = c.before.before.before.before.before.before.before.before.before.before.requires.1 c.before.before.if2.false in omega (arith, l.greatest-in)
+mul-t24 c = let l = c.before.before.before.before.before.before.before.before.before.before.requires.1 c.before.before.if2.false in omega (arith, l.greatest_in)
 
 shared-slice-read-t26 : tie.Need-shared-slice-read-t26
-shared-slice-read-t26 c = (c.before.before.before.before.before.before.before.before.before.before.before.requires.1 c.before.before.before.if2.false).greatest-in
+shared-slice-read-t26 c = (c.before.before.before.before.before.before.before.before.before.before.before.requires.1 c.before.before.before.if2.false).greatest_in
 
 mul-t27 : tie.Need-overflow-mul-t27
 mul-t27 c = let l = c.before.before.before.before.before.before.before.before.before.before.before.requires.1 c.before.before.before.if2.false in omega (arith, l.top_in)
@@ -66,7 +66,7 @@ ended-requires-2 : tie.Need-ended-requires-2
 ended-requires-2 c κs = search rules
 
 returns-3 : tie.Need-returns-3
-returns-3 c = enter-stands _ _ _ _ _ _ _ _ _ _ _ _ _ c.before.before.before.before.before.before.before.before.before.before.before.before.before.before.if1.false c.before.before.before.before.before.before.before.before.before.before.before.before.before.if2.false _ _ _ _ _ (cc c.before.before.before.before.before.before.before.is-strip.ensures) c.before.before.before.before.before.before.body_at.ensures c.before.before.before.load.ensures _ (cc)
+returns-3 c = enter_stands _ _ _ _ _ _ _ _ _ _ _ _ _ c.before.before.before.before.before.before.before.before.before.before.before.before.before.before.if1.false c.before.before.before.before.before.before.before.before.before.before.before.before.before.if2.false _ _ _ _ _ (cc c.before.before.before.before.before.before.before.is-strip.ensures) c.before.before.before.before.before.before.body_at.ensures c.before.before.before.load.ensures _ (cc)
 
 returns-4 : tie.Need-returns-4
 returns-4 c = enter-wrong _ _ _ _ _ _ _ _ _ _ _ _ _ c.before.before.before.before.before.before.before.before.before.before.before.before.before.before.if1.false c.before.before.before.before.before.before.before.before.before.before.before.before.before.if2.false _ _ _ _ _ (cc c.before.before.before.before.before.before.before.is-strip.ensures) c.before.before.before.before.before.before.body_at.ensures c.before.before.before.load.ensures _ c.ended2.ensures (cc)

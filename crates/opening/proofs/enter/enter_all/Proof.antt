@@ -4,7 +4,7 @@ use mathlib.Core.Path.{refl}
 use native.Mathlib.Omega.{arith}
 use borrow.Author.Rules.{rules}
 use Rattle.opening.proofs.Enters.{enter-few}
-use Rattle.opening.proofs.Standings.{Entering, entering-none, entering-more, entering-done}
+use Rattle.opening.proofs.Standings.{Entering, entering_none, entering_more, entering_done}
 use Rattle.opening.proofs.enter.enter_all.Statement.{statement}
 use Rattle.opening.proofs.enter.enter_all.Tie as tie
 
@@ -15,7 +15,7 @@ abbrev decreases-loop : tie.decreases-loop
 decreases-loop shelf los his tops counts bodies weights was mets docs₀ scores₀ hs₀ fresh₀ wrong₀ t₀ docs scores hs fresh wrong t = 8 - t
 
 loop-holds : tie.Need-loop-init invariant-loop decreases-loop
-loop-holds c = entering-none _ _ _ _ _ _ _ _ _ _ _ _ (omega arith) c.before.before.before.before.before.before.before.before.before.requires.docids c.before.before.before.before.before.before.before.before.before.requires.scored
+loop-holds c = entering_none _ _ _ _ _ _ _ _ _ _ _ _ (omega arith) c.before.before.before.before.before.before.before.before.before.requires.docids c.before.before.before.before.before.before.before.before.before.requires.scored
 
 mul-h : tie.Need-overflow-mul-h invariant-loop decreases-loop
 mul-h c = omega arith
@@ -62,13 +62,13 @@ loop-less c = omega arith
 loop-again : tie.Need-loop-preserved invariant-loop decreases-loop
 loop-again c =
     let s = c.before.before.before.before.before.before.before.before.before.before.before.loop in
-    entering-more _ _ _ _ _ _ _ _ _ _ _ _ _ _ _ _ _ _ _ _ _ _ _ _ (omega arith) (omega arith) (λ i. omega (arith, c.before.before.before.before.before.before.before.before.before.before.before.before.before.before.before.before.before.before.before.before.shared-slice-known.given i)) (c.before.before.before.before.before.before.before.before.before.before.before.before.before.before.before.before.before.before.before.before.before.requires.each s.t (omega arith)) s.invariant c.before.before.before.enter.ensures refl c.lesser.ensures
+    entering_more _ _ _ _ _ _ _ _ _ _ _ _ _ _ _ _ _ _ _ _ _ _ _ _ (omega arith) (omega arith) (λ i. omega (arith, c.before.before.before.before.before.before.before.before.before.before.before.before.before.before.before.before.before.before.before.before.shared-slice-known.given i)) (c.before.before.before.before.before.before.before.before.before.before.before.before.before.before.before.before.before.before.before.before.before.requires.each s.t (omega arith)) s.invariant c.before.before.before.enter.ensures refl c.lesser.ensures
 
 returns : tie.Need-returns invariant-loop decreases-loop
-returns c = entering-done _ _ _ _ _ _ _ _ _ _ _ _ _ _ _ _ _ _ (omega arith) c.before.loop.invariant
+returns c = entering_done _ _ _ _ _ _ _ _ _ _ _ _ _ _ _ _ _ _ (omega arith) c.before.loop.invariant
 
-pub enter-all-spec : {M : Type 1} → statement M
-enter-all-spec =
+pub enter_all_spec : {M : Type 1} → statement M
+enter_all_spec =
     tie.close
     (tie.spec
     invariant-loop

@@ -2,7 +2,7 @@
 use Prim.Native.Nat.{◌-◌, ◌≤◌}
 use lib.ListN.{get_or}
 use native.Mathlib.Omega.{arith}
-use Rattle.opening.proofs.Meets.{Moving, moving-none, moving-more, moving-done}
+use Rattle.opening.proofs.Meets.{Moving, moving_none, moving_more, moving_done}
 use Rattle.opening.proofs.meet.meet_all.Statement.{statement}
 use Rattle.opening.proofs.meet.meet_all.Tie as tie
 
@@ -13,7 +13,7 @@ abbrev decreases-loop : tie.decreases-loop
 decreases-loop ends los his d ats₀ mets₀ t₀ ats mets t = 8 - t
 
 loop-holds : tie.Need-loop-init invariant-loop decreases-loop
-loop-holds c = moving-none _ _ _ _ _ _ c.before.before.before.before.before.requires.0.places c.before.before.before.before.before.requires.1
+loop-holds c = moving_none _ _ _ _ _ _ c.before.before.before.before.before.requires.0.places c.before.before.before.before.before.requires.1
 
 mul-end : tie.Need-overflow-mul-end invariant-loop decreases-loop
 mul-end c = omega arith
@@ -56,7 +56,7 @@ loop-less : tie.Need-loop-smaller invariant-loop decreases-loop
 loop-less c = omega arith
 
 loop-again : tie.Need-loop-preserved invariant-loop decreases-loop
-loop-again c = moving-more _ _ _ _ _ _ _ _ _ _ _ (omega arith) c.before.before.before.before.before.loop.invariant c.before.reach.ensures c.met.ensures
+loop-again c = moving_more _ _ _ _ _ _ _ _ _ _ _ (omega arith) c.before.before.before.before.before.loop.invariant c.before.reach.ensures c.met.ensures
 
 same_length : tie.Need-same-length invariant-loop decreases-loop
 same_length c = omega arith
@@ -65,10 +65,10 @@ same-length-2 : tie.Need-same-length-2 invariant-loop decreases-loop
 same-length-2 c = omega arith
 
 returns : tie.Need-returns invariant-loop decreases-loop
-returns c = moving-done _ _ _ _ _ _ _ _ _ (omega arith) c.before.loop.invariant
+returns c = moving_done _ _ _ _ _ _ _ _ _ (omega arith) c.before.loop.invariant
 
-pub meet-all-spec : {M : Type 1} → statement M
-meet-all-spec =
+pub meet_all_spec : {M : Type 1} → statement M
+meet_all_spec =
     tie.close
     (tie.spec
     invariant-loop

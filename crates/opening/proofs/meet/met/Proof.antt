@@ -19,5 +19,5 @@ returns-2 c = simp (lt-ltb _ _ c.before.before.if1.false, le-leb _ _ c.if2.true)
 returns-3 : tie.Need-returns-3
 returns-3 c = simp (lt-ltb _ _ c.before.before.if1.false, lt-leb _ _ c.if2.false)
 
-pub met-spec : {M : Type 1} → statement M
-met-spec = tie.close (tie.spec returns mul-if2 shared-slice-read-if2 returns-2 returns-3)
+pub met_spec : {M : Type 1} → statement M
+met_spec = tie.close (tie.spec returns mul-if2 shared-slice-read-if2 returns-2 returns-3)

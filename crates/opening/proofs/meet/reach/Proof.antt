@@ -2,7 +2,7 @@
 use Prim.Native.Nat.{ℕ, ◌-◌, ◌≤◌, ◌<◌}
 use native.Mathlib.Omega.{arith}
 use lib.ListN.{get_or}
-use Rattle.model.proofs.Lists.{up-to-next}
+use Rattle.model.proofs.Lists.{up_to_next}
 use Rattle.opening.proofs.meet.reach.Statement.{statement}
 use Rattle.opening.proofs.meet.reach.Tie as tie
 
@@ -36,15 +36,15 @@ loop-again : tie.Need-loop-preserved invariant-loop decreases-loop
 loop-again c =
     let at = c.before.before.before in
     let v = at.loop.invariant in
-    (omega arith, omega arith, up-to-next (λ (i : ℕ). get_or at.before.args.his.now i 0 < at.before.args.d) _ _ v.2 c.if1.false)
+    (omega arith, omega arith, up_to_next (λ (i : ℕ). get_or at.before.args.his.now i 0 < at.before.args.d) _ _ v.2 c.if1.false)
 
 returns-2 : tie.Need-returns-2 invariant-loop decreases-loop
 returns-2 c =
     let v = c.before.loop.invariant in
     record { on = v.0; upto = v.1; below = v.2; ends = λ l. absurd (omega arith) }
 
-pub reach-spec : {M : Type 1} → statement M
-reach-spec =
+pub reach_spec : {M : Type 1} → statement M
+reach_spec =
     tie.close
     (tie.spec
     invariant-loop

@@ -1,6 +1,6 @@
 -- `open` meets its contract: the search stops here, or goes on past the interval. Assumes nothing.
 use native.Mathlib.Omega.{arith}
-use Rattle.opening.proofs.Turns.{open-asks, open-stopped, open_done}
+use Rattle.opening.proofs.Turns.{open_asks, open-stopped, open_done}
 use Rattle.opening.proofs.turn.open.Statement.{statement}
 use Rattle.opening.proofs.turn.open.Tie as tie
 
@@ -11,7 +11,7 @@ returns : tie.Need-returns
 returns c = open-stopped _ _ _ _ _ _ (λ i. omega (arith, c.before.before.before.before.before.before.before.before.before.before.before.before.before.shared-slice-known.given i)) _ _ _ _ _ _ _ _ _ _ _ _ c.before.before.before.before.before.before.before.before.before.before.before.before.before.before.requires.0 c.before.before.before.before.before.before.before.before.before.before.before.before.before.before.requires.1 _ _ _ c.before.before.enter-all.ensures c.if1.true
 
 interval-requires : tie.Need-interval-requires
-interval-requires c κs = open-asks _ _ _ _ _ _ (λ i. omega (arith, c.before.before.before.before.before.before.before.before.before.before.before.before.before.before.before.shared-slice-known.given i)) _ _ _ _ _ _ _ _ _ _ _ _ c.before.before.before.before.before.before.before.before.before.before.before.before.before.before.before.before.requires.0 c.before.before.before.before.before.before.before.before.before.before.before.before.before.before.before.before.requires.1 _ _ _ c.before.before.before.before.enter-all.ensures
+interval-requires c κs = open_asks _ _ _ _ _ _ (λ i. omega (arith, c.before.before.before.before.before.before.before.before.before.before.before.before.before.before.before.shared-slice-known.given i)) _ _ _ _ _ _ _ _ _ _ _ _ c.before.before.before.before.before.before.before.before.before.before.before.before.before.before.before.before.requires.0 c.before.before.before.before.before.before.before.before.before.before.before.before.before.before.before.before.requires.1 _ _ _ c.before.before.before.before.enter-all.ensures
 
 returns-2 : tie.Need-returns-2
 returns-2 c = open_done _ _ _ _ _ _ (λ i. omega (arith, c.before.before.before.before.before.before.before.before.before.before.before.before.before.before.before.before.before.before.shared-slice-known.given i)) _ _ _ _ _ _ _ _ _ _ _ _ c.before.before.before.before.before.before.before.before.before.before.before.before.before.before.before.before.before.before.before.requires.0 c.before.before.before.before.before.before.before.before.before.before.before.before.before.before.before.before.before.before.before.requires.1 _ _ _ c.before.before.before.before.before.before.before.enter-all.ensures _ _ c.before.before.interval.ensures c.before.before.before.before.before.if1.false

@@ -4,20 +4,20 @@ use native.Mathlib.Omega.{arith}
 use native.Mathlib.Nat.{mul-le-mul}
 use lib.ListN.{length, take, get_or}
 use Rattle.model.specs.Runs.{All}
-use Rattle.prune.specs.Gather.{blocksOf}
-use Rattle.prune.proofs.Books.{Raising, raising-none, raising-more, raising-done, unraised, below_next}
+use Rattle.prune.specs.Gather.{blocks_of}
+use Rattle.prune.proofs.Books.{Raising, raising_none, raising_more, raising_done, unraised, below_next}
 use Rattle.prune.proofs.ceiling.raise_all.Statement.{statement}
 use Rattle.prune.proofs.ceiling.raise_all.Tie as tie
 
 abbrev invariant-loop : tie.invariant-loop
 invariant-loop starts los his tops w out₀ k₀ j₀ out k j =
-    Raising w (blocksOf los his tops) starts out₀ out k × (j ≤ length his) × (k < length starts → All (λ g. g < get_or starts k 0) (take j his))
+    Raising w (blocks_of los his tops) starts out₀ out k × (j ≤ length his) × (k < length starts → All (λ g. g < get_or starts k 0) (take j his))
 
 abbrev decreases-loop : tie.decreases-loop
 decreases-loop starts los his tops w out₀ k₀ j₀ out k j = length starts - k
 
 loop-holds : tie.Need-loop-init invariant-loop decreases-loop
-loop-holds c = (raising-none _ _ _ _, omega arith, λ l. tt)
+loop-holds c = (raising_none _ _ _ _, omega arith, λ l. tt)
 
 mul-d : tie.Need-overflow-mul-d invariant-loop decreases-loop
 mul-d c = omega arith
@@ -55,7 +55,7 @@ add-out c =
     let q = st.requires in
     let top = c.before.top_in in
     let m : a.w * top.result ≤ 255 * 65535 = mul-le-mul {n₂ = 255} {m₂ = 65535} (omega (arith, q.2)) (omega (arith, top.ensures.small)) in
-    omega (arith, unraised a.w (blocksOf a.los.now a.his.now a.tops.now) a.starts.now a.out.now at.loop.out 4278255871 at.loop.k q.3 at.loop.invariant.0 (omega arith) q.4)
+    omega (arith, unraised a.w (blocks_of a.los.now a.his.now a.tops.now) a.starts.now a.out.now at.loop.out 4278255871 at.loop.k q.3 at.loop.invariant.0 (omega arith) q.4)
 
 mul-out-3 : tie.Need-overflow-mul-out-3 invariant-loop decreases-loop
 mul-out-3 c = omega arith
@@ -77,8 +77,8 @@ loop-again c =
     let q = st.requires in
     let top = c.before.top_in in
     let r = c.before.before.reach in (
-      raising-more a.w (blocksOf a.los.now a.his.now a.tops.now) a.starts.now a.out.now at.loop.out at.loop.k top.result q.3 at.loop.invariant.0 (omega arith) top.ensures.is,
-      r.ensures.j-in,
+      raising_more a.w (blocks_of a.los.now a.his.now a.tops.now) a.starts.now a.out.now at.loop.out at.loop.k top.result q.3 at.loop.invariant.0 (omega arith) top.ensures.is,
+      r.ensures.j_in,
       λ l. below_next a.starts.now a.his.now r.result at.loop.k q.1 r.ensures.below l,
     )
 
@@ -90,10 +90,10 @@ returns c =
     let at = c.before in
     let st = at.before.before.before.before.before.before in
     let a = st.args in
-    (omega (arith, at.loop.invariant.0.k-in), raising-done a.w (blocksOf a.los.now a.his.now a.tops.now) a.starts.now a.out.now at.loop.out at.loop.k (omega arith) at.loop.invariant.0)
+    (omega (arith, at.loop.invariant.0.k-in), raising_done a.w (blocks_of a.los.now a.his.now a.tops.now) a.starts.now a.out.now at.loop.out at.loop.k (omega arith) at.loop.invariant.0)
 
-pub raise-all-spec : {M : Type 1} → statement M
-raise-all-spec =
+pub raise_all_spec : {M : Type 1} → statement M
+raise_all_spec =
     tie.close
     (tie.spec
     invariant-loop

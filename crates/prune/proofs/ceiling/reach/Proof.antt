@@ -25,7 +25,7 @@ shared-slice-read-if1 c = omega arith
 returns : tie.Need-returns invariant-loop decreases-loop
 returns c =
     let at = c.before.before.before in
-    record { j-in = at.loop.invariant.0; below = at.loop.invariant.1; ends = λ l. c.if1.true }
+    record { j_in = at.loop.invariant.0; below = at.loop.invariant.1; ends = λ l. c.if1.true }
 
 add-j : tie.Need-overflow-add-j invariant-loop decreases-loop
 add-j c = omega arith
@@ -39,10 +39,10 @@ loop-again c =
     (omega arith, below_more at.before.args.his.now at.before.args.d at.loop.j at.loop.invariant.1 (omega arith) c.if1.false)
 
 returns-2 : tie.Need-returns-2 invariant-loop decreases-loop
-returns-2 c = record { j-in = c.before.loop.invariant.0; below = c.before.loop.invariant.1; ends = λ l. absurd (omega arith) }
+returns-2 c = record { j_in = c.before.loop.invariant.0; below = c.before.loop.invariant.1; ends = λ l. absurd (omega arith) }
 
-pub reach-spec : {M : Type 1} → statement M
-reach-spec =
+pub reach_spec : {M : Type 1} → statement M
+reach_spec =
     tie.close
     (tie.spec
     invariant-loop

@@ -39,8 +39,8 @@ returns-3 c =
     let a = st.args in
     record { is = c.wide.ensures.0 ∙ reached-met a.los.now a.his.now a.tops.now a.d a.j st.requires.0 st.requires.1 (omega arith) (omega arith); small = c.wide.ensures.1 }
 
-pub top-in-spec : {M : Type 1} → statement M
-top-in-spec =
+pub top_in_spec : {M : Type 1} → statement M
+top_in_spec =
     tie.close
     (tie.spec
     returns

@@ -4,12 +4,12 @@ use native.Mathlib.Omega.{arith}
 use lib.ListN.{length, take}
 use lib.Seq.{length-take-le}
 use borrow.Author.Rules.{rules}
-use Rattle.prune.proofs.Gathers.{list-few, list-asc, merge-few, merge-whole, none-added}
+use Rattle.prune.proofs.Gathers.{list-few, list_asc, merge-few, merge-whole, none_added}
 use Rattle.prune.proofs.cut.add_list.Statement.{statement}
 use Rattle.prune.proofs.cut.add_list.Tie as tie
 
 returns : tie.Need-returns
-returns c = let st = c.before.before.before.before in none-added st.args.lim st.args.n st.args.los.now st.args.his.now st.args.run.now (omega arith) (omega (arith, st.requires.2))
+returns c = let st = c.before.before.before.before in none_added st.args.lim st.args.n st.args.los.now st.args.his.now st.args.run.now (omega arith) (omega (arith, st.requires.2))
 
 slice-aggregate-list-cuts : tie.Need-slice-aggregate-list-cuts
 slice-aggregate-list-cuts c = search rules
@@ -53,7 +53,7 @@ merge-cuts-requires c κs =
     let few : p.result ≤ 2 * length a.los.now = list-few a.lim a.los.now a.his.now _ p.new.1.1.1.0 p.result p.ensures in
     let l1 : length (take a.n a.run.now) ≡ a.n = length-take-le a.n a.run.now (omega (arith, q.2)) in
     let l2 : length (take p.result p.new.1.1.1.0) ≡ p.result = length-take-le p.result p.new.1.1.1.0 (omega (arith, p.auto.1.1.1.0, q.4)) in
-    (omega (arith, q.2, q.5), list-asc a.lim a.los.now a.his.now _ p.new.1.1.1.0 p.result p.ensures)
+    (omega (arith, q.2, q.5), list_asc a.lim a.los.now a.his.now _ p.new.1.1.1.0 p.result p.ensures)
 
 slice-aggregate-copy-run : tie.Need-slice-aggregate-copy-run
 slice-aggregate-copy-run c = search rules
@@ -81,8 +81,8 @@ returns-2 c =
     let t = c.before.before.copy_run in
     merge-whole a.lim a.los.now a.his.now _ p.new.1.1.1.0 p.result p.ensures a.n a.run.now _ m.new.1.1.0 m.result q.3 m.ensures t.new.1.1.0 t.result t.ensures
 
-pub add-list-spec : {M : Type 1} → statement M
-add-list-spec =
+pub add_list_spec : {M : Type 1} → statement M
+add_list_spec =
     tie.close
     (tie.spec
     returns

@@ -1,6 +1,6 @@
 use Prim.Native.Nat.{◌-◌}
 use native.Mathlib.Omega.{arith}
-use Rattle.prune.proofs.Gathers.{Copying, copying-none, copying-more, copying-done}
+use Rattle.prune.proofs.Gathers.{Copying, copying_none, copying_more, copying_done}
 use Rattle.prune.proofs.cut.copy_run.Statement.{statement}
 use Rattle.prune.proofs.cut.copy_run.Tie as tie
 
@@ -11,7 +11,7 @@ abbrev decreases-loop : tie.decreases-loop
 decreases-loop from n to₀ k₀ to k = n - k
 
 loop-holds : tie.Need-loop-init invariant-loop decreases-loop
-loop-holds c = copying-none _ _ _
+loop-holds c = copying_none _ _ _
 
 mul-to : tie.Need-overflow-mul-to invariant-loop decreases-loop
 mul-to c = omega arith
@@ -32,16 +32,16 @@ loop-less : tie.Need-loop-smaller invariant-loop decreases-loop
 loop-less c = omega arith
 
 loop-again : tie.Need-loop-preserved invariant-loop decreases-loop
-loop-again c = copying-more _ _ _ _ _ c.before.before.before.requires.0 c.before.before.before.requires.1 (omega arith) c.before.before.loop.invariant
+loop-again c = copying_more _ _ _ _ _ c.before.before.before.requires.0 c.before.before.before.requires.1 (omega arith) c.before.before.loop.invariant
 
 same_length : tie.Need-same-length invariant-loop decreases-loop
 same_length c = omega arith
 
 returns : tie.Need-returns invariant-loop decreases-loop
-returns c = copying-done _ _ _ _ _ c.before.before.requires.1 (omega arith) c.before.loop.invariant
+returns c = copying_done _ _ _ _ _ c.before.before.requires.1 (omega arith) c.before.loop.invariant
 
-pub copy-run-spec : {M : Type 1} → statement M
-copy-run-spec =
+pub copy_run_spec : {M : Type 1} → statement M
+copy_run_spec =
     tie.close
     (tie.spec
     invariant-loop

@@ -3,7 +3,7 @@ use mathlib.Core.List.{[]}
 use mathlib.Core.Path.{◌∙◌}
 use native.Mathlib.Omega.{arith}
 use lib.ListN.{length}
-use Rattle.prune.proofs.Gathers.{Gathering, gathering-none, gathering-more, gathering-done, gathering-most, first-asks, second-asks, second-most, after-fits}
+use Rattle.prune.proofs.Gathers.{Gathering, gathering_none, gathering_more, gathering_done, gathering_most, first_asks, second_asks, second_most, after-fits}
 use Rattle.prune.proofs.cut.list_cuts.Statement.{statement}
 use Rattle.prune.proofs.cut.list_cuts.Tie as tie
 
@@ -14,7 +14,7 @@ abbrev decreases-loop : tie.decreases-loop
 decreases-loop los his lim out₀ n₀ k₀ out n k = length los - k
 
 loop-holds : tie.Need-loop-init invariant-loop decreases-loop
-loop-holds c = gathering-none c.before.before.before.args.lim c.before.before.before.args.los.now c.before.before.before.args.his.now c.before.before.before.args.out.now 0 (omega arith)
+loop-holds c = gathering_none c.before.before.before.args.lim c.before.before.before.args.los.now c.before.before.before.args.his.now c.before.before.before.args.out.now 0 (omega arith)
 
 mul-least : tie.Need-overflow-mul-least invariant-loop decreases-loop
 mul-least c = omega arith
@@ -41,8 +41,8 @@ push-cut-requires c κs =
     let q = c.before.before.before.before.before.before.before.before.requires in
     let s = c.before.before.before.before.loop in
     let l : s.k < length a.los.now = omega arith in
-    let w = first-asks a.lim [] a.los.now a.his.now a.out.now s.out s.n s.k s.invariant tt l (omega (arith, q.2)) in
-    (w.0, w.1, gathering-most a.lim [] a.los.now a.his.now a.out.now s.out s.n s.k s.invariant q.0 l tt)
+    let w = first_asks a.lim [] a.los.now a.his.now a.out.now s.out s.n s.k s.invariant tt l (omega (arith, q.2)) in
+    (w.0, w.1, gathering_most a.lim [] a.los.now a.his.now a.out.now s.out s.n s.k s.invariant q.0 l tt)
 
 push-cut-requires-2 : tie.Need-push-cut-requires-2 invariant-loop decreases-loop
 push-cut-requires-2 c κs =
@@ -51,8 +51,8 @@ push-cut-requires-2 c κs =
     let s = c.before.before.before.before.before.before.before.before.loop in
     let p = c.before.before.before.push-cut in
     let l : s.k < length a.los.now = omega arith in
-    let w = second-asks a.lim [] a.los.now a.his.now a.out.now s.out s.n s.k s.invariant p.new.0 p.result tt l (omega (arith, q.2)) p.auto.0 p.ensures in
-    (w.0, w.1, second-most a.lim [] a.los.now a.his.now a.out.now s.out s.n s.k s.invariant p.new.0 p.result q.0 tt l p.ensures)
+    let w = second_asks a.lim [] a.los.now a.his.now a.out.now s.out s.n s.k s.invariant p.new.0 p.result tt l (omega (arith, q.2)) p.auto.0 p.ensures in
+    (w.0, w.1, second_most a.lim [] a.los.now a.his.now a.out.now s.out s.n s.k s.invariant p.new.0 p.result q.0 tt l p.ensures)
 
 add-k : tie.Need-overflow-add-k invariant-loop decreases-loop
 add-k c = omega arith
@@ -67,7 +67,7 @@ loop-again c =
     let s = c.before.before.before.before.before.before.before.before.before.before.before.loop in
     let p = c.before.before.before.before.before.before.push-cut in
     let r = c.before.before.push-cut2 in
-    gathering-more a.lim [] a.los.now a.his.now a.out.now s.out s.n s.k s.invariant p.new.0 r.new.0 p.result r.result (omega arith) q.0.even (r.auto.0 ∙ p.auto.0) p.ensures r.ensures
+    gathering_more a.lim [] a.los.now a.his.now a.out.now s.out s.n s.k s.invariant p.new.0 r.new.0 p.result r.result (omega arith) q.0.even (r.auto.0 ∙ p.auto.0) p.ensures r.ensures
 
 same_length : tie.Need-same-length invariant-loop decreases-loop
 same_length c = omega arith
@@ -77,10 +77,10 @@ returns c =
     let a = c.before.before.before.before.before.args in
     let q = c.before.before.before.before.before.requires in
     let s = c.before.loop in
-    gathering-done a.lim [] a.los.now a.his.now a.out.now s.out s.n s.k s.invariant (omega arith) q.0.even
+    gathering_done a.lim [] a.los.now a.his.now a.out.now s.out s.n s.k s.invariant (omega arith) q.0.even
 
-pub list-cuts-spec : {M : Type 1} → statement M
-list-cuts-spec =
+pub list_cuts_spec : {M : Type 1} → statement M
+list_cuts_spec =
     tie.close
     (tie.spec
     invariant-loop

@@ -3,7 +3,7 @@ use mathlib.Core.Logic.{⊎_elim}
 use native.Mathlib.Omega.{arith}
 use lib.ListN.{length}
 use borrow.Author.Tests.{ltb-true, ltb-false}
-use Rattle.prune.proofs.Loops.{Merging, merging-none, merging-more, merging-done}
+use Rattle.prune.proofs.Loops.{Merging, merging_none, merging_more, merging_done}
 use Rattle.prune.proofs.cut.merge_cuts.Statement.{statement}
 use Rattle.prune.proofs.cut.merge_cuts.Tie as tie
 
@@ -14,7 +14,7 @@ abbrev decreases-loop : tie.decreases-loop
 decreases-loop a b out₀ i₀ j₀ o₀ out i j o = (length a + length b) - (i + j)
 
 loop-holds : tie.Need-loop-init invariant-loop decreases-loop
-loop-holds c = merging-none _ _ _
+loop-holds c = merging_none _ _ _
 
 next-cut-requires : tie.Need-next-cut-requires invariant-loop decreases-loop
 next-cut-requires c κs =
@@ -38,16 +38,16 @@ loop-less : tie.Need-loop-smaller invariant-loop decreases-loop
 loop-less c = omega arith
 
 loop-again : tie.Need-loop-preserved invariant-loop decreases-loop
-loop-again c = merging-more _ _ _ _ _ _ _ _ _ _ c.before.before.before.before.before.before.requires.0 c.before.before.loop.invariant c.next-cut.ensures
+loop-again c = merging_more _ _ _ _ _ _ _ _ _ _ c.before.before.before.before.before.before.requires.0 c.before.before.loop.invariant c.next-cut.ensures
 
 same_length : tie.Need-same-length invariant-loop decreases-loop
 same_length c = omega arith
 
 returns : tie.Need-returns invariant-loop decreases-loop
-returns c = merging-done _ _ _ _ _ _ _ c.before.before.before.before.before.before.requires.0 c.before.before.loop.invariant (omega arith) (omega (arith, ltb-false))
+returns c = merging_done _ _ _ _ _ _ _ c.before.before.before.before.before.before.requires.0 c.before.before.loop.invariant (omega arith) (omega (arith, ltb-false))
 
-pub merge-cuts-spec : {M : Type 1} → statement M
-merge-cuts-spec =
+pub merge_cuts_spec : {M : Type 1} → statement M
+merge_cuts_spec =
     tie.close
     (tie.spec
     invariant-loop

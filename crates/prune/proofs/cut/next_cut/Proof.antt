@@ -1,5 +1,5 @@
 use native.Mathlib.Omega.{arith}
-use Rattle.prune.proofs.Merges.{step-first, step-second, step_both, first-left, second-left}
+use Rattle.prune.proofs.Merges.{step-first, step_second, step_both, first-left, second_left}
 use borrow.Author.Rules.{rules}
 use Rattle.prune.proofs.cut.next_cut.Statement.{statement}
 use Rattle.prune.proofs.cut.next_cut.Tie as tie
@@ -26,7 +26,7 @@ add-t18 : tie.Need-overflow-add-t18
 add-t18 c = search rules
 
 returns-2 : tie.Need-returns-2
-returns-2 c = step-second _ _ _ _ c.before.before.before.before.before.before.requires.3 (omega arith) (omega arith) (omega arith)
+returns-2 c = step_second _ _ _ _ c.before.before.before.before.before.before.requires.3 (omega arith) (omega arith) (omega arith)
 
 add-t13 : tie.Need-overflow-add-t13
 add-t13 c = search rules
@@ -53,10 +53,10 @@ add-t22 : tie.Need-overflow-add-t22
 add-t22 c = search rules
 
 returns-5 : tie.Need-returns-5
-returns-5 c = second-left _ _ _ _ c.before.before.requires.3 (omega arith) (omega arith) (omega arith)
+returns-5 c = second_left _ _ _ _ c.before.before.requires.3 (omega arith) (omega arith) (omega arith)
 
-pub next-cut-spec : {M : Type 1} → statement M
-next-cut-spec =
+pub next_cut_spec : {M : Type 1} → statement M
+next_cut_spec =
     tie.close
     (tie.spec
     mul-x

@@ -11,5 +11,5 @@ returns c = rw (lt-ltb 0 c.before.args.ceiling c.if1.true)
 returns-2 : tie.Need-returns-2
 returns-2 c = rw (le-ltb 0 c.before.args.ceiling c.if1.false)
 
-pub opens-spec : {M : Type 1} → statement M
-opens-spec = tie.close (tie.spec returns returns-2)
+pub opens_spec : {M : Type 1} → statement M
+opens_spec = tie.close (tie.spec returns returns-2)

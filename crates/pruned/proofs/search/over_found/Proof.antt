@@ -3,7 +3,7 @@ use mathlib.Core.Path.{◌≡◌, sym}
 use native.Mathlib.Omega.{arith}
 use lib.ListN.{length}
 use borrow.Author.Rules.{rules}
-use Rattle.pruned.proofs.Gatherings.{Tabled, counts-long, bodies-long, tabled-walked}
+use Rattle.pruned.proofs.Gatherings.{Tabled, counts-long, bodies-long, tabled_walked}
 use Rattle.pruned.proofs.Endings.{ends-short, ends-wrong, ends-done}
 use Rattle.pruned.proofs.search.over_found.Statement.{statement}
 use Rattle.pruned.proofs.search.over_found.Tie as tie
@@ -52,7 +52,7 @@ slice-aggregate-over-blocks-7 : tie.Need-slice-aggregate-over-blocks-7
 slice-aggregate-over-blocks-7 c = search rules
 
 over-blocks-requires : tie.Need-over-blocks-requires
-over-blocks-requires c κs = tabled-walked _ _ _ _ _ (tabled c.before.before.before.before.before.before.before.before.before.before.before.before.before.before.before.before) _ (weighted c.before.before.before.before.before.before.before.before.before.before.before.before.before.before.before.before.before)
+over-blocks-requires c κs = tabled_walked _ _ _ _ _ (tabled c.before.before.before.before.before.before.before.before.before.before.before.before.before.before.before.before) _ (weighted c.before.before.before.before.before.before.before.before.before.before.before.before.before.before.before.before.before)
 
 refuse-requires : tie.Need-refuse-requires
 refuse-requires c κs = search rules
@@ -105,8 +105,8 @@ returns-3 c =
     let a = g.before.before.before.before.before.args in
     ends-done a.shelf.now a.found.ats a.found.counts a.k g.gather.result (tabled g) a.t3 (weighted g.before) a.firsts.now a.ceilings.now a.marks.now _ _ _ _ c.before.before.before.before.before.before.before.before.before.before.before.before.over-blocks.ensures c.before.before.if1.false (omega (arith, c.if2.false))
 
-pub over-found-spec : {M : Type 1} → statement M
-over-found-spec =
+pub over_found_spec : {M : Type 1} → statement M
+over_found_spec =
     tie.close
     (tie.spec
     gather-requires

@@ -10,12 +10,12 @@ use Rattle.query.specs.Query.{Question, asked}
 use Rattle.query.specs.Answers.{Carries}
 use Rattle.query.specs.Range.{InRange}
 use Rattle.query.specs.declared.read.Verdict.TheVariants.{Good, Bad}
-use Rattle.query.proofs.Accepted.{accepted-in-range}
+use Rattle.query.proofs.Accepted.{accepted_in_range}
 use Rattle.shelf.specs.Walk.{Listing, walk}
 use Rattle.shelf.specs.declared.check.Checked.TheVariants.{Sound, Fault}
-use Rattle.exhaustive.proofs.Alls.{told-bad, told-good, walk-bad, walk-good, carried-few}
-use Rattle.pruned.proofs.Endings.{answers-as, refused-early}
-use Rattle.pruned.proofs.Searches.{searched-asked, searched-walk, searched-rows, searched-lists, found-searchable, found-answer}
+use Rattle.exhaustive.proofs.Alls.{told_bad, told-good, walk_bad, walk-good, carried_few}
+use Rattle.pruned.proofs.Endings.{answers_as, refused_early}
+use Rattle.pruned.proofs.Searches.{searched-asked, searched-walk, searched-rows, searched-lists, found_searchable, found-answer}
 use Rattle.pruned.proofs.search.search.Statement.{statement}
 use Rattle.pruned.proofs.search.search.Tie as tie
 
@@ -42,7 +42,7 @@ bytes : (c : tie.After-enum-told) → Bytes c.before.before.before.before.before
 bytes c = λ i. omega (arith, c.before.before.before.before.before.before.before.before.shared-slice-known.given i)
 
 few : (c : tie.After-enum-told) → c.before.before.before.read-query.result.query.n ≤ 8
-few c = let g = accepted c in carried-few _ g.0 c.before.before.before.read-query.result.query (bytes c) g.1 g.2
+few c = let g = accepted c in carried_few _ g.0 c.before.before.before.read-query.result.query (bytes c) g.1 g.2
 
 find-terms-requires : tie.Need-find-terms-requires
 find-terms-requires c κs = few c.before.before
@@ -76,9 +76,9 @@ returns c =
     let a = good.before.before.before.before.before.before.before.before.before.args in
     let g = accepted good in
     let l = lists told in
-    answers-as
+    answers_as
     (searched-rows a.query.now a.shelf.now a.rows a.firsts.now a.ceilings.now a.marks.now g.0 g.1 l.0 l.1 (omega (arith, c.before.if1.true, g.2.k)))
-    (refused-early 9 0 a.firsts.now a.ceilings.now a.marks.now c.refuse3.result c.refuse3.ensures)
+    (refused_early 9 0 a.firsts.now a.ceilings.now a.marks.now c.refuse3.result c.refuse3.ensures)
 
 over-found-requires : tie.Need-over-found-requires
 over-found-requires c κs =
@@ -89,8 +89,8 @@ over-found-requires c κs =
     let g = accepted good in
     let l = lists told in
     let q = good.before.before.before.read-query.result.query in
-    let r : InRange g.0 = accepted-in-range _ g.0 (bytes good) g.1 in
-    found-searchable a.shelf.now g.0 q g.2 (few good) l.0 l.1 find.find-terms.result find.find-terms.ensures q.k (omega (arith, g.2.k, r.k-low)) (omega (arith, g.2.k, r.k-high))
+    let r : InRange g.0 = accepted_in_range _ g.0 (bytes good) g.1 in
+    found_searchable a.shelf.now g.0 q g.2 (few good) l.0 l.1 find.find-terms.result find.find-terms.ensures q.k (omega (arith, g.2.k, r.k_low)) (omega (arith, g.2.k, r.k_high))
 
 returns-2 : tie.Need-returns-2
 returns-2 c =
@@ -99,9 +99,9 @@ returns-2 c =
     let n = c.before.before.asking.given.0.0 in
     let o = c.before.before.asking.given.0.1.0 in
     let e : rd.read-query.result.verdict ≡ Bad n o = cc in
-    answers-as
-    (searched-asked a.query.now a.shelf.now a.rows a.firsts.now a.ceilings.now a.marks.now n o (told-bad _ rd.read-query.result n o rd.read-query.ensures e))
-    (refused-early n o a.firsts.now a.ceilings.now a.marks.now c.refuse.result c.refuse.ensures)
+    answers_as
+    (searched-asked a.query.now a.shelf.now a.rows a.firsts.now a.ceilings.now a.marks.now n o (told_bad _ rd.read-query.result n o rd.read-query.ensures e))
+    (refused_early n o a.firsts.now a.ceilings.now a.marks.now c.refuse.result c.refuse.ensures)
 
 returns-3 : tie.Need-returns-3
 returns-3 c =
@@ -112,9 +112,9 @@ returns-3 c =
     let n = c.before.before.walked.given.0.0 in
     let o = c.before.before.walked.given.0.1.0 in
     let e : find.find-terms.result.verdict ≡ Fault n o = cc in
-    answers-as
-    (searched-walk a.query.now a.shelf.now a.rows a.firsts.now a.ceilings.now a.marks.now g.0 g.1 n o (walk-bad _ find.find-terms.result.verdict n o find.find-terms.ensures.verdict e))
-    (refused-early n o a.firsts.now a.ceilings.now a.marks.now c.refuse2.result c.refuse2.ensures)
+    answers_as
+    (searched-walk a.query.now a.shelf.now a.rows a.firsts.now a.ceilings.now a.marks.now g.0 g.1 n o (walk_bad _ find.find-terms.result.verdict n o find.find-terms.ensures.verdict e))
+    (refused_early n o a.firsts.now a.ceilings.now a.marks.now c.refuse2.result c.refuse2.ensures)
 
 same_length : tie.Need-same-length
 same_length c = search rules
@@ -134,13 +134,13 @@ returns-4 c =
     let g = accepted good in
     let l = lists told in
     let q = good.before.before.before.read-query.result.query in
-    answers-as
+    answers_as
     (found-answer a.shelf.now g.0 q g.2 (few good) l.0 l.1 find.find-terms.result find.find-terms.ensures a.firsts.now a.ceilings.now a.marks.now
     ∙ searched-lists a.query.now a.shelf.now a.rows a.firsts.now a.ceilings.now a.marks.now g.0 g.1 l.0 l.1 (omega (arith, c.before.before.before.before.before.before.before.before.before.before.if1.false, g.2.k)))
     c.before.before.before.before.before.before.over-found.ensures
 
-pub search-spec : {M : Type 1} → statement M
-search-spec =
+pub search_spec : {M : Type 1} → statement M
+search_spec =
     tie.close
     (tie.spec
     read-query-requires

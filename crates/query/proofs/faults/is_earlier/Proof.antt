@@ -45,8 +45,8 @@ returns-2 c =
     let a = c.before.before.before.args in
     sym (l.invariant.1 ∙ earlier-none a.term l.j a.q.now c.loop-test.false)
 
-pub is-earlier-spec : {M : Type 1} → statement M
-is-earlier-spec =
+pub is_earlier_spec : {M : Type 1} → statement M
+is_earlier_spec =
     tie.close
     (tie.spec
     invariant-loop

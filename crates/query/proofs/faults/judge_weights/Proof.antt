@@ -4,13 +4,13 @@ use native.Mathlib.Omega.{arith}
 use mathlib.Core.Path.{◌≡◌, sym, ◌∙◌}
 use lib.ListN.{drop}
 use borrow.Author.Rules.{rules}
-use Rattle.query.specs.Query.{termsIn, weighted}
-use Rattle.query.proofs.Judging.{weightedFrom, weights-start, weights-zero, weights-next, weights-end}
+use Rattle.query.specs.Query.{terms_in, weighted}
+use Rattle.query.proofs.Judging.{weighted_from, weights-start, weights-zero, weights-next, weights-end}
 use Rattle.query.proofs.faults.judge_weights.Statement.{statement}
 use Rattle.query.proofs.faults.judge_weights.Tie as tie
 
 abbrev invariant-loop : tie.invariant-loop
-invariant-loop q n i₀ i = (i ≤ n) × (weighted 0 (termsIn n (drop 4 q)) ≡ weightedFrom n i q)
+invariant-loop q n i₀ i = (i ≤ n) × (weighted 0 (terms_in n (drop 4 q)) ≡ weighted_from n i q)
 
 abbrev decreases-loop : tie.decreases-loop
 decreases-loop q n i₀ i = n - i
@@ -51,8 +51,8 @@ returns-2 c =
     let a = c.before.before.before.args in
     sym (l.invariant.1 ∙ weights-end a.n l.i a.q.now c.loop-test.false)
 
-pub judge-weights-spec : {M : Type 1} → statement M
-judge-weights-spec =
+pub judge_weights_spec : {M : Type 1} → statement M
+judge_weights_spec =
     tie.close
     (tie.spec
     invariant-loop

@@ -2,7 +2,7 @@
 use mathlib.Core.Path.{◌≡◌, sym}
 use Rattle.wire.specs.Field.{field_at}
 use Rattle.wire.specs.declared.field.FieldRead.TheVariants.{Whole, Missing}
-use Rattle.query.proofs.Parts.{is-field-whole, is-field-missing}
+use Rattle.query.proofs.Parts.{is-field-whole, is-field_missing}
 use borrow.Author.Rules.{rules}
 use Rattle.query.proofs.fields.is_field.Statement.{statement}
 use Rattle.query.proofs.fields.is_field.Tie as tie
@@ -26,7 +26,7 @@ returns-2 : tie.Need-returns-2
 returns-2 c =
     let a = c.before.before.before.before.args in
     let f : field_at a.tag a.q.now a.at ≡ Missing = cc in
-    sym (is-field-missing a.tag a.len a.q.now a.at f)
+    sym (is-field_missing a.tag a.len a.q.now a.at f)
 
-pub is-field-spec : {M : Type 1} → statement M
-is-field-spec = tie.close (tie.spec field-requires enum-known-n enum_told returns returns-2)
+pub is_field_spec : {M : Type 1} → statement M
+is_field_spec = tie.close (tie.spec field-requires enum-known-n enum_told returns returns-2)

@@ -20,5 +20,5 @@ be4-requires c κs = search rules
 returns : tie.Need-returns
 returns c = let a = c.before.before.args in c.be4.ensures ∙ sym (term-at a.q.now a.i)
 
-pub term-of-spec : {M : Type 1} → statement M
-term-of-spec = tie.close (tie.spec mul-be4 add-be4 add-be4-2 be4-requires returns)
+pub term_of_spec : {M : Type 1} → statement M
+term_of_spec = tie.close (tie.spec mul-be4 add-be4 add-be4-2 be4-requires returns)

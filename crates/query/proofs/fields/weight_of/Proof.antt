@@ -20,5 +20,5 @@ be1-requires c κs = search rules
 returns : tie.Need-returns
 returns c = let a = c.before.before.args in c.be1.ensures ∙ sym (weight-at a.q.now a.i)
 
-pub weight-of-spec : {M : Type 1} → statement M
-weight-of-spec = tie.close (tie.spec mul-be1 add-be1 add-be1-2 be1-requires returns)
+pub weight_of_spec : {M : Type 1} → statement M
+weight_of_spec = tie.close (tie.spec mul-be1 add-be1 add-be1-2 be1-requires returns)

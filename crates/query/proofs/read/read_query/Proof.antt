@@ -2,10 +2,10 @@
 use native.Mathlib.Omega.{arith}
 use mathlib.Core.Path.{◌≡◌}
 use lib.ListN.{length}
-use Rattle.query.specs.Query.{termAt, question, fieldCount}
+use Rattle.query.specs.Query.{term_at, question, field_count}
 use Rattle.query.specs.declared.fields.FieldsRead.TheVariants.{Terms, Wrong}
-use Rattle.query.proofs.Parts.{fields-size}
-use Rattle.query.proofs.Judging.{asked-wrong, asked-bad, asked-good, good-few, tells-refused, tells-done}
+use Rattle.query.proofs.Parts.{fields_size}
+use Rattle.query.proofs.Judging.{asked-wrong, asked_bad, asked-good, good-few, tells_refused, tells_done}
 use borrow.Author.Rules.{rules}
 use Rattle.query.proofs.read.read_query.Statement.{statement}
 use Rattle.query.proofs.read.read_query.Tie as tie
@@ -23,11 +23,11 @@ enum-known-n : tie.Need-enum-known-n
 enum-known-n c = search rules
 
 -- the fields that the first call counted
-counted : (c : tie.After-known-told2) → fieldCount c.before.before.before.before.before.args.q.now ≡ Terms c.before.n.given.0.0
+counted : (c : tie.After-known-told2) → field_count c.before.before.before.before.before.args.q.now ≡ Terms c.before.n.given.0.0
 counted c = cc
 
-sized : (c : tie.After-known-told2) → length c.before.before.before.before.before.args.q.now ≡ termAt c.before.n.given.0.0
-sized c = fields-size c.before.before.before.before.before.args.q.now c.before.n.given.0.0 (counted c)
+sized : (c : tie.After-known-told2) → length c.before.before.before.before.before.args.q.now ≡ term_at c.before.n.given.0.0
+sized c = fields_size c.before.before.before.before.before.args.q.now c.before.n.given.0.0 (counted c)
 
 be1-requires : tie.Need-be1-requires
 be1-requires c κs = omega (arith, sized c)
@@ -55,8 +55,8 @@ returns : tie.Need-returns
 returns c =
     let q = c.before.before.before.before.before.before.args.q.now in
     let at = c.before.before.at.given.0.0 in
-    let f : fieldCount q ≡ Wrong at = cc in
-    tells-refused q 1 at c.refuse.result (asked-wrong q at f) c.refuse.ensures
+    let f : field_count q ≡ Wrong at = cc in
+    tells_refused q 1 at c.refuse.result (asked-wrong q at f) c.refuse.ensures
 
 returns-2 : tie.Need-returns-2
 returns-2 c =
@@ -66,8 +66,8 @@ returns-2 c =
     let at = c.before.before.number.given.0.1.0 in
     let first = c.before.before.before.before.before.be1 in
     let v = c.before.before.before.before.judge-terms in
-    tells-refused q number at c.refuse2.result
-    (asked-bad q fields.before.n.given.0.0 first.result (counted fields) first.ensures v.result v.ensures number at (cc))
+    tells_refused q number at c.refuse2.result
+    (asked_bad q fields.before.n.given.0.0 first.result (counted fields) first.ensures v.result v.ensures number at (cc))
     c.refuse2.ensures
 
 returns-3 : tie.Need-returns-3
@@ -77,10 +77,10 @@ returns-3 c =
     let n = fields.before.n.given.0.0 in
     let first = c.before.before.before.before.be1 in
     let v = c.before.before.before.judge-terms in
-    tells-done q (question first.result n q) c.take-terms.result (asked-good q n first.result (counted fields) first.ensures v.result v.ensures (cc)) c.take-terms.ensures
+    tells_done q (question first.result n q) c.take-terms.result (asked-good q n first.result (counted fields) first.ensures v.result v.ensures (cc)) c.take-terms.ensures
 
-pub read-query-spec : {M : Type 1} → statement M
-read-query-spec =
+pub read_query_spec : {M : Type 1} → statement M
+read_query_spec =
     tie.close
     (tie.spec
     count-fields-requires

@@ -1,7 +1,7 @@
 -- `query::read::take_terms` meets its contract. The invariant: what is left to store gives what is asked (`Fillings`). Assumes nothing.
 use Prim.Native.Nat.{◌-◌}
 use native.Mathlib.Omega.{arith}
-use Rattle.query.proofs.Fillings.{Filling, filling-start, filling-turn, filling-end}
+use Rattle.query.proofs.Fillings.{Filling, filling_start, filling_turn, filling_end}
 use Rattle.query.proofs.read.take_terms.Statement.{statement}
 use Rattle.query.proofs.read.take_terms.Tie as tie
 
@@ -12,7 +12,7 @@ abbrev decreases-loop : tie.decreases-loop
 decreases-loop q k n terms₀ weights₀ i₀ terms weights i = n - i
 
 loop-holds : tie.Need-loop-init invariant-loop decreases-loop
-loop-holds c = filling-start c.before.args.q.now c.before.args.n
+loop-holds c = filling_start c.before.args.q.now c.before.args.n
 
 term-of-requires : tie.Need-term-of-requires invariant-loop decreases-loop
 term-of-requires c κs = omega arith
@@ -40,17 +40,17 @@ loop-again c =
     let l = c.before.before.before.loop in
     let a = c.before.before.before.before.before.args in
     rw (c.before.term_of.ensures, c.weight-of.ensures)
-    (filling-turn a.q.now a.n l.i l.terms l.weights l.invariant c.before.before.loop-test.true)
+    (filling_turn a.q.now a.n l.i l.terms l.weights l.invariant c.before.before.loop-test.true)
 
 returns : tie.Need-returns invariant-loop decreases-loop
 returns c =
     let l = c.before.loop in
     let start = c.before.before.before in
     let a = start.args in
-    filling-end a.q.now a.n l.i l.terms l.weights l.invariant a.k start.requires.0 c.loop-test.false
+    filling_end a.q.now a.n l.i l.terms l.weights l.invariant a.k start.requires.0 c.loop-test.false
 
-pub take-terms-spec : {M : Type 1} → statement M
-take-terms-spec =
+pub take_terms_spec : {M : Type 1} → statement M
+take_terms_spec =
     tie.close
     (tie.spec
     invariant-loop

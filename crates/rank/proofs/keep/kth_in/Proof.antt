@@ -1,6 +1,6 @@
 -- `kth_in` meets its contract. Assumes nothing.
 use native.Mathlib.Omega.{arith}
-use Rattle.rank.proofs.Rows.{kth-few, kth-full}
+use Rattle.rank.proofs.Rows.{kth-few, kth_full}
 use borrow.Author.Rules.{rules}
 use Rattle.rank.proofs.keep.kth_in.Statement.{statement}
 use Rattle.rank.proofs.keep.kth_in.Tie as tie
@@ -18,7 +18,7 @@ element-copy-out-result : tie.Need-element-copy-out-result
 element-copy-out-result c = search rules
 
 returns-2 : tie.Need-returns-2
-returns-2 c = let st = c.before.before in kth-full st.args.k st.args.n st.args.scores.now (omega (arith, st.requires.3)) (omega arith)
+returns-2 c = let st = c.before.before in kth_full st.args.k st.args.n st.args.scores.now (omega (arith, st.requires.3)) (omega arith)
 
-pub kth-in-spec : {M : Type 1} → statement M
-kth-in-spec = tie.close (tie.spec returns sub-last mul-result element-copy-out-result returns-2)
+pub kth_in_spec : {M : Type 1} → statement M
+kth_in_spec = tie.close (tie.spec returns sub-last mul-result element-copy-out-result returns-2)

@@ -5,7 +5,7 @@ use native.Mathlib.Omega.{arith}
 use lib.ListN.{length, take, get_or}
 use lib.Seq.{length-take-le, get_or-take}
 use Rattle.model.specs.Post.{post, postings}
-use Rattle.rank.proofs.Rows.{rows-length, rows-getD, keep-behind}
+use Rattle.rank.proofs.Rows.{rows-length, rows_get_d, keep-behind}
 use borrow.Author.Rules.{rules}
 use Rattle.rank.proofs.keep.offer_in.Statement.{statement}
 use Rattle.rank.proofs.keep.offer_in.Tie as tie
@@ -50,7 +50,7 @@ returns-3 c =
     let full : n ≡ st.args.k = omega arith in
     let pos : st.args.k ≡ suc j = omega (arith, st.requires.4) in
     let long : length (take n (postings ds ss)) ≡ n = length-take-le n (postings ds ss) (omega (arith, rows-length ds ss (omega arith))) in
-    let here : get_or (take n (postings ds ss)) j (post 0 0) ≡ post (get_or ds j 0) (get_or ss j 0) = get_or-take n (postings ds ss) j (post 0 0) (omega arith) ∙ rows-getD ds ss j (omega arith) (omega arith) in
+    let here : get_or (take n (postings ds ss)) j (post 0 0) ≡ post (get_or ds j 0) (get_or ss j 0) = get_or-take n (postings ds ss) j (post 0 0) (omega arith) ∙ rows_get_d ds ss j (omega arith) (omega arith) in
     record {
       kept = keep-behind (take n (postings ds ss)) st.args.k j (post st.args.d st.args.s) (omega arith) pos st.requires.5 (rw here (sym c.before.is-ahead.ensures ∙ c.if2.false));
       grows = omega arith;
@@ -61,8 +61,8 @@ returns-3 c =
       scores-past = refl;
     }
 
-pub offer-in-spec : {M : Type 1} → statement M
-offer-in-spec =
+pub offer_in_spec : {M : Type 1} → statement M
+offer_in_spec =
     tie.close
     (tie.spec
     keep-in-requires

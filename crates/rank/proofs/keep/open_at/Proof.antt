@@ -55,8 +55,8 @@ returns c =
     let e : c.before.loop.i ≡ c.before.before.args.end = omega arith in
     rw e at c.before.loop.invariant.2
 
-pub open-at-spec : {M : Type 1} → statement M
-open-at-spec =
+pub open_at_spec : {M : Type 1} → statement M
+open_at_spec =
     tie.close
     (tie.spec
     invariant-loop

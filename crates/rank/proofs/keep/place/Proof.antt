@@ -11,7 +11,7 @@ use Rattle.model.specs.Post.{post, postings}
 use Rattle.model.specs.Runs.{All}
 use Rattle.rank.specs.Rank.{ahead}
 use Rattle.rank.proofs.Places.{insert-at, behind-before}
-use Rattle.rank.proofs.Rows.{rows-length, rows-getD}
+use Rattle.rank.proofs.Rows.{rows-length, rows_get_d}
 use Rattle.rank.proofs.keep.place.Statement.{statement}
 use Rattle.rank.proofs.keep.place.Tie as tie
 
@@ -52,7 +52,7 @@ long : (c : tie.Start invariant-loop decreases-loop) → length (take c.args.n (
 long c = length-take-le c.args.n (postings c.args.docids.now c.args.scores.now) (omega (arith, rows-length c.args.docids.now c.args.scores.now (omega arith)))
 
 here : (c : tie.Start invariant-loop decreases-loop) (i : ℕ) → i < c.args.n → get_or (take c.args.n (postings c.args.docids.now c.args.scores.now)) i (post 0 0) ≡ post (get_or c.args.docids.now i 0) (get_or c.args.scores.now i 0)
-here c i l = get_or-take c.args.n (postings c.args.docids.now c.args.scores.now) i (post 0 0) l ∙ rows-getD c.args.docids.now c.args.scores.now i (omega arith) (omega arith)
+here c i l = get_or-take c.args.n (postings c.args.docids.now c.args.scores.now) i (post 0 0) l ∙ rows_get_d c.args.docids.now c.args.scores.now i (omega arith) (omega arith)
 
 loop-less : tie.Need-loop-smaller invariant-loop decreases-loop
 loop-less c = search rules
@@ -89,8 +89,8 @@ returns c =
     let e : at.loop.high ≡ at.loop.low = omega arith in
     (omega arith, insert-at h (post 0 0) at.loop.low x (omega (arith, long st)) at.loop.invariant.2 (λ m. rw e at at.loop.invariant.3 (omega (arith, long st))))
 
-pub place-spec : {M : Type 1} → statement M
-place-spec =
+pub place_spec : {M : Type 1} → statement M
+place_spec =
     tie.close
     (tie.spec
     invariant-loop

@@ -93,8 +93,8 @@ returns-2 c =
     print-done a.found.verdict a.found a.firsts.now a.ceilings.now a.marks.now a.out.now c.before.before.put-shown.new.0 c.before.before.put-shown.result c.before.before.before.before.before.before.before.before.before.before.before.before.before.before.before.before.before.before.requires.0
     (is-done c.before.before.before.before.before.before.before.before.before.before.before.before) (small c.before.before.before.before.before.before.before.before.before.before.before.before) (rw z at c.before.before.put-shown.ensures)
 
-pub print-spec : {M : Type 1} → statement M
-print-spec =
+pub print_spec : {M : Type 1} → statement M
+print_spec =
     tie.close
     (tie.spec
     enum-known-verdict

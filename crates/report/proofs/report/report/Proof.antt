@@ -55,8 +55,8 @@ same-length-2 c = search rules
 returns-2 : tie.Need-returns-2
 returns-2 c = let a = c.before.before.before.before.before.before.before.before.before.before.before.before.before.before.before.before.args in searches a.input.now a.out.now c.before.before.before.before.before.show.new.1.1.1.1.1.0 c.before.before.before.before.before.show.result c.before.before.before.before.before.before.before.before.before.before.before.before.split.result c.before.before.before.before.before.before.before.before.before.before.before.before.before.if1.false c.before.before.before.before.before.before.before.before.before.before.before.before.split.ensures c.before.before.before.before.before.show.ensures
 
-pub report-spec : {M : Type 1} → statement M
-report-spec =
+pub report_spec : {M : Type 1} → statement M
+report_spec =
     tie.close
     (tie.spec
     put-refusal-requires

@@ -3,7 +3,7 @@ use mathlib.Core.Path.{◌≡◌}
 use borrow.Author.Rules.{rules}
 use Rattle.lines.specs.Text.{codes}
 use Rattle.lines.specs.declared.said.Start.TheVariants.{Stop, Answer}
-use Rattle.lines.proofs.Speaking.{speaks-stop, speaks-answer, answer-room}
+use Rattle.lines.proofs.Speaking.{speaks_stop, speaks_answer, answer-room}
 use Rattle.report.specs.Report.{reported}
 use Rattle.report.proofs.report.respond.Statement.{statement}
 use Rattle.report.proofs.report.respond.Tie as tie
@@ -35,7 +35,7 @@ returns c =
     let a = c.before.before.before.before.before.before.before.before.before.before.before.args in
     let b = c.before.before.before.before.before.begin in
     let e : b.result ≡ Stop c.before.n.given.0.0 = cc in
-    speaks-stop (codes "search") (reported a.input.now) a.out.now a.err.now b.new.1.1.1.0 a.read b.result b.ensures c.before.n.given.0.0 e
+    speaks_stop (codes "search") (reported a.input.now) a.out.now a.err.now b.new.1.1.1.0 a.read b.result b.ensures c.before.n.given.0.0 e
 
 same-length-2 : tie.Need-same-length-2
 same-length-2 c = search rules
@@ -48,11 +48,11 @@ returns-2 c =
     let a = c.before.before.before.before.before.before.before.before.before.before.before.before.before.before.args in
     let b = c.before.before.before.before.before.before.before.before.begin in
     let e : b.result ≡ Answer = cc in
-    speaks-answer (codes "search") (reported a.input.now) a.out.now a.err.now b.new.1.1.1.0 a.read b.result b.ensures
+    speaks_answer (codes "search") (reported a.input.now) a.out.now a.err.now b.new.1.1.1.0 a.read b.result b.ensures
     c.before.before.report.new.1.0 c.before.before.report.result e c.before.before.report.ensures
 
-pub respond-spec : {M : Type 1} → statement M
-respond-spec =
+pub respond_spec : {M : Type 1} → statement M
+respond_spec =
     tie.close
     (tie.spec
     slice-aggregate-begin

@@ -4,7 +4,7 @@ use mathlib.Core.Path.{subst, ◌∙◌}
 use Rattle.model.specs.Outcome.{Outcome}
 use Rattle.model.specs.Runs.{Holds}
 use Rattle.lines.specs.Text.{Shown, text}
-use Rattle.report.proofs.Finds.{lent, asked, shown-lent, finds-told, finds-printable}
+use Rattle.report.proofs.Finds.{lent, asked, shown-lent, finds_told, finds_printable}
 use borrow.Author.Rules.{rules}
 use Rattle.report.proofs.report.show.Statement.{statement}
 use Rattle.report.proofs.report.show.Tie as tie
@@ -18,7 +18,7 @@ print-requires c κs =
     let found = c.before.before.before.before.before.before.before.before.before.before.search in
     let a = st.args in (
       omega (arith, st.requires.output),
-      finds-printable a.firsts.now a.ceilings.now a.marks.now found.new.1.1.1.0 found.new.1.1.1.1.0 found.new.1.1.1.1.1.0 found.result
+      finds_printable a.firsts.now a.ceilings.now a.marks.now found.new.1.1.1.0 found.new.1.1.1.1.0 found.new.1.1.1.1.1.0 found.result
           (lent a.query.now a.shelf.now)
           (asked _ _ _ _ _ _ _ _ _ st.requires.firsts st.requires.ceilings st.requires.marks found.ensures) (omega (arith, st.requires.firsts)),
     )
@@ -41,13 +41,13 @@ returns c =
     let found = c.before.before.before.before.before.before.before.before.before.before.before.before.before.search in
     let a = st.args in
     subst (λ (o : Outcome Shown). Holds a.out.now (text o) c.before.before.print.new.0 c.before.before.print.result)
-    (finds-told a.firsts.now a.ceilings.now a.marks.now found.new.1.1.1.0 found.new.1.1.1.1.0 found.new.1.1.1.1.1.0 found.result
+    (finds_told a.firsts.now a.ceilings.now a.marks.now found.new.1.1.1.0 found.new.1.1.1.1.0 found.new.1.1.1.1.1.0 found.result
     (lent a.query.now a.shelf.now)
     (asked _ _ _ _ _ _ _ _ _ st.requires.firsts st.requires.ceilings st.requires.marks found.ensures) ∙ shown-lent a.query.now a.shelf.now)
     c.before.before.print.ensures
 
-pub show-spec : {M : Type 1} → statement M
-show-spec =
+pub show_spec : {M : Type 1} → statement M
+show_spec =
     tie.close
     (tie.spec
     search-requires

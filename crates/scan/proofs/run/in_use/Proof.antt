@@ -46,5 +46,5 @@ loop-again c =
 returns-2 : tie.Need-returns-2 invariant-loop decreases-loop
 returns-2 c = let e : c.before.loop.n ≡ 0 = omega arith in (omega arith, rw e at c.before.loop.invariant.1)
 
-pub in-use-spec : {M : Type 1} → statement M
-in-use-spec = tie.close (tie.spec invariant-loop decreases-loop loop-holds sub-h mul-h array-copy-out-h returns sub-n loop-less loop-again returns-2)
+pub in_use_spec : {M : Type 1} → statement M
+in_use_spec = tie.close (tie.spec invariant-loop decreases-loop loop-holds sub-h mul-h array-copy-out-h returns sub-n loop-less loop-again returns-2)

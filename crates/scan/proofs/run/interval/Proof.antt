@@ -1,5 +1,5 @@
 -- `interval` meets its contract: the run over lists skipped to the first docid gives the interval's hits. Assumes nothing.
-use Rattle.rank.specs.Keep.{keptOf}
+use Rattle.rank.specs.Keep.{kept_of}
 use Rattle.scan.specs.Heads.{terms}
 use Rattle.rank.proofs.Hits.{interval-kept, interval-left}
 use borrow.Author.Rules.{rules}
@@ -21,7 +21,7 @@ returns c =
     let skip = c.before.skip_all in
     let r = c.run.ensures in
     record {
-      kept = interval-kept st.args.k st.args.first st.args.last (keptOf st.args.kept) _ ts (terms ds ss skip.result) skip.ensures.same st.requires.below st.requires.rising r.kept;
+      kept = interval-kept st.args.k st.args.first st.args.last (kept_of st.args.kept) _ ts (terms ds ss skip.result) skip.ensures.same st.requires.below st.requires.rising r.kept;
       rows = r.rows;
       room = r.room;
       order = r.order;
@@ -31,5 +31,5 @@ returns c =
       left = interval-left st.args.first st.args.last ts (terms ds ss skip.result) _ skip.ensures.same st.requires.below st.requires.from r.left;
     }
 
-pub interval-spec : {M : Type 1} → statement M
-interval-spec = tie.close (tie.spec skip-all-requires run-requires returns)
+pub interval_spec : {M : Type 1} → statement M
+interval_spec = tie.close (tie.spec skip-all-requires run-requires returns)

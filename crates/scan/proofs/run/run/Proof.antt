@@ -10,12 +10,12 @@ use borrow.Author.Rules.{rules}
 use lib.ListN.{length, take, drop, get_or, set, length-map}
 use Rattle.model.proofs.Lists.{map-here}
 use Rattle.rank.specs.Run.{none, size}
-use Rattle.rank.proofs.Keepings.{kept_on}
-use Rattle.scan.specs.Heads.{blank, InBuffers, least, sum_at, stepIf, terms}
+use Rattle.rank.proofs.Keepings.{kept_on_lem}
+use Rattle.scan.specs.Heads.{blank, InBuffers, least, sum_at, step_if, terms}
 use Rattle.scan.specs.Run.{Idle}
 use Rattle.scan.specs.declared.head.Head.{Head}
-use Rattle.scan.proofs.Heads.{least-top, least-turn, least-past, product, sum_past, step_past, idle-step, All-at, step-turn, step-stay, sum-here, sum-stay}
-use Rattle.scan.proofs.Turns.{Running, running_none, running-turn, fewer-left, run-ended}
+use Rattle.scan.proofs.Heads.{least-top, least-turn, least-past, product, sum_past, step_past, idle-step, All_at, step-turn, step_stay, sum-here, sum_stay}
+use Rattle.scan.proofs.Turns.{Running, running_none, running_turn, fewer-left, run-ended}
 use Rattle.scan.proofs.run.run.Statement.{statement}
 use Rattle.scan.proofs.run.run.Tie as tie
 
@@ -29,7 +29,7 @@ decreases-loop2 ds ss last k m hs best sums n d₀ i₀ d i = m - i
 -- the second pass
 abbrev invariant-loop3 : tie.invariant-loop3
 invariant-loop3 ds ss last k m hs₀ best sums n d i s₀ j₀ hs s j =
-    (j ≤ m) × (s ≤ 16711425 * j) × (hs ≡ map (stepIf ds ss d) (take j hs₀) ++ drop j hs₀) × (sum_at d hs₀ ≡ s + sum_at d (drop j hs₀))
+    (j ≤ m) × (s ≤ 16711425 * j) × (hs ≡ map (step_if ds ss d) (take j hs₀) ++ drop j hs₀) × (sum_at d hs₀ ≡ s + sum_at d (drop j hs₀))
 
 abbrev decreases-loop3 : tie.decreases-loop3
 decreases-loop3 ds ss last k m hs₀ best sums n d i s₀ j₀ hs s j = m - j
@@ -89,7 +89,7 @@ returns c =
     let all : two.loop2.i ≡ used.in_use.result = omega (arith, two.loop2.invariant.0) in
     let e = run-ended st.args.last two.loop2.d st.args.docs.now st.args.scores.now one.loop.hs c.if2.true
     (sym (two.loop2.invariant.2 ∙ least-past one.loop.hs two.loop2.i two.loop2.d (rw all one.loop.invariant.1) two.loop2.invariant.1)) in
-    let rows = kept_on st.args.kept one.loop.best one.loop.sums one.loop.n (w.best-long ∙ sym w.sums-long) (omega (arith, w.best-long, w.room, st.requires.most)) w.best-past w.sums-past in
+    let rows = kept_on_lem st.args.kept one.loop.best one.loop.sums one.loop.n (w.best-long ∙ sym w.sums-long) (omega (arith, w.best-long, w.room, st.requires.most)) w.best-past w.sums-past in
     record { kept = rw e.0 at w.hits; rows = rows; room = w.room; order = w.order; inside = w.inside; parts = w.parts; moved = sym e.2 ∙ w.moved; left = sym e.1 ∙ w.left }
 
 loop3-holds : tie.Need-loop3-init invariant-loop2 decreases-loop2 invariant-loop3 decreases-loop3 invariant-loop decreases-loop
@@ -128,8 +128,8 @@ next-requires c κs =
     let used = one.before.before.before in
     let st = used.before in
     let here : three.loop3.j < length one.loop.hs = omega (arith, one.loop.invariant.0.long, c.before.before.before.before.before.loop3-test.true, used.in_use.ensures.0) in
-    rw (three.loop3.invariant.2, map-here blank (stepIf st.args.docs.now st.args.scores.now two.loop2.d) one.loop.hs three.loop3.j here)
-    (All-at (InBuffers st.args.docs.now st.args.scores.now) one.loop.hs three.loop3.j here one.loop.invariant.0.inside)
+    rw (three.loop3.invariant.2, map-here blank (step_if st.args.docs.now st.args.scores.now two.loop2.d) one.loop.hs three.loop3.j here)
+    (All_at (InBuffers st.args.docs.now st.args.scores.now) one.loop.hs three.loop3.j here one.loop.invariant.0.inside)
 
 mul-hs : tie.Need-overflow-mul-hs invariant-loop2 decreases-loop2 invariant-loop3 decreases-loop3 invariant-loop decreases-loop
 mul-hs c = search rules
@@ -167,8 +167,8 @@ loop3-again c =
     (λ w. (
       omega arith,
       omega (arith, w.2),
-      w.1 ∙ step-stay ds ss d hs three.loop3.hs j l inv.2 w.0.left,
-      rw w.2 (sum-stay ds ss d hs three.loop3.hs j l inv.2 three.loop3.s inv.3 w.0.left),
+      w.1 ∙ step_stay ds ss d hs three.loop3.hs j l inv.2 w.0.left,
+      rw w.2 (sum_stay ds ss d hs three.loop3.hs j l inv.2 three.loop3.s inv.3 w.0.left),
     ))
     c.if3.branch
 
@@ -194,7 +194,7 @@ loop-less c =
     let each : three.loop3.j ≡ used.in_use.result = omega (arith, three.loop3.invariant.0) in
     let under : d < none = omega (arith, st.requires.below) in
     let small : d ≡ least hs = sym (two.loop2.invariant.2 ∙ least-past hs two.loop2.i d (rw all one.loop.invariant.1) two.loop2.invariant.1) in
-    let moved : three.loop3.hs ≡ map (stepIf ds ss d) hs = three.loop3.invariant.2 ∙ step_past ds ss d hs three.loop3.j under (rw each one.loop.invariant.1) in
+    let moved : three.loop3.hs ≡ map (step_if ds ss d) hs = three.loop3.invariant.2 ∙ step_past ds ss d hs three.loop3.j under (rw each one.loop.invariant.1) in
     rw moved (fewer-left st.args.last d ds ss hs st.requires.below low small one.loop.invariant.0.inside)
 
 loop-again : tie.Need-loop-preserved invariant-loop2 decreases-loop2 invariant-loop3 decreases-loop3 invariant-loop decreases-loop
@@ -213,9 +213,9 @@ loop-again c =
     let each : three.loop3.j ≡ used.in_use.result = omega (arith, three.loop3.invariant.0) in
     let under : d < none = omega (arith, st.requires.below) in
     let small : d ≡ least hs = sym (two.loop2.invariant.2 ∙ least-past hs two.loop2.i d (rw all one.loop.invariant.1) two.loop2.invariant.1) in
-    let moved : three.loop3.hs ≡ map (stepIf ds ss d) hs = three.loop3.invariant.2 ∙ step_past ds ss d hs three.loop3.j under (rw each one.loop.invariant.1) in
+    let moved : three.loop3.hs ≡ map (step_if ds ss d) hs = three.loop3.invariant.2 ∙ step_past ds ss d hs three.loop3.j under (rw each one.loop.invariant.1) in
     let sum : three.loop3.s ≡ sum_at d hs = sym (three.loop3.invariant.3 ∙ sum_past d hs three.loop3.j three.loop3.s under (rw each one.loop.invariant.1)) in
-    rw moved (running-turn ds ss _ _ _ _ hs _ _ _ d three.loop3.s _ _ _ one.loop.invariant.0 st.requires.below low small sum c.offer-in.ensures, idle-step ds ss d hs used.in_use.result under one.loop.invariant.1)
+    rw moved (running_turn ds ss _ _ _ _ hs _ _ _ d three.loop3.s _ _ _ one.loop.invariant.0 st.requires.below low small sum c.offer-in.ensures, idle-step ds ss d hs used.in_use.result under one.loop.invariant.1)
 
 pub run_spec : {M : Type 1} → statement M
 run_spec =

@@ -5,8 +5,8 @@ use native.Mathlib.Omega.{arith}
 use borrow.Author.Rules.{rules}
 use lib.ListN.{length}
 use Rattle.scan.specs.Heads.{InBuffers}
-use Rattle.scan.proofs.Heads.{All-at}
-use Rattle.scan.proofs.Terms.{Skipping, skipping-turn, skipping-done, skipping-moved}
+use Rattle.scan.proofs.Heads.{All_at}
+use Rattle.scan.proofs.Terms.{Skipping, skipping_turn, skipping_done, skipping_moved}
 use Rattle.scan.proofs.run.skip_all.Statement.{statement}
 use Rattle.scan.proofs.run.skip_all.Tie as tie
 
@@ -21,7 +21,7 @@ long : (c : tie.Start invariant-loop decreases-loop) → length c.args.heads ≡
 long c = c.well-formed.0.1.0.1
 
 loop-holds : tie.Need-loop-init invariant-loop decreases-loop
-loop-holds c = record { i-in = omega arith; long = long c; inside = c.requires.0; parts = c.requires.1; moved = refl; same = refl }
+loop-holds c = record { i_in = omega arith; long = long c; inside = c.requires.0; parts = c.requires.1; moved = refl; same = refl }
 
 mul-h : tie.Need-overflow-mul-h invariant-loop decreases-loop
 mul-h c = search rules
@@ -33,7 +33,7 @@ skipped-requires : tie.Need-skipped-requires invariant-loop decreases-loop
 skipped-requires c κs =
     let at = c.before.before in
     let st = at.before in
-    (All-at (InBuffers st.args.docs.now st.args.scores.now) at.loop.hs at.loop.i (omega (arith, at.loop.invariant.long)) at.loop.invariant.inside, st.requires.2)
+    (All_at (InBuffers st.args.docs.now st.args.scores.now) at.loop.hs at.loop.i (omega (arith, at.loop.invariant.long)) at.loop.invariant.inside, st.requires.2)
 
 mul-hs : tie.Need-overflow-mul-hs invariant-loop decreases-loop
 mul-hs c = search rules
@@ -51,16 +51,16 @@ loop-again : tie.Need-loop-preserved invariant-loop decreases-loop
 loop-again c =
     let at = c.before.before.before in
     let st = at.before in
-    skipping-turn st.args.docs.now st.args.scores.now st.args.first st.args.heads at.loop.hs at.loop.i at.loop.invariant (long st) c.skipped.result (omega arith) c.skipped.ensures
+    skipping_turn st.args.docs.now st.args.scores.now st.args.first st.args.heads at.loop.hs at.loop.i at.loop.invariant (long st) c.skipped.result (omega arith) c.skipped.ensures
 
 returns : tie.Need-returns invariant-loop decreases-loop
 returns c =
     let at = c.before in
     let st = at.before in
-    record { inside = at.loop.invariant.inside; parts = at.loop.invariant.parts; moved = skipping-moved st.args.docs.now st.args.scores.now st.args.first st.args.heads at.loop.hs at.loop.i at.loop.invariant (long st) (omega arith); same = skipping-done st.args.docs.now st.args.scores.now st.args.first st.args.heads at.loop.hs at.loop.i at.loop.invariant (long st) (omega arith) }
+    record { inside = at.loop.invariant.inside; parts = at.loop.invariant.parts; moved = skipping_moved st.args.docs.now st.args.scores.now st.args.first st.args.heads at.loop.hs at.loop.i at.loop.invariant (long st) (omega arith); same = skipping_done st.args.docs.now st.args.scores.now st.args.first st.args.heads at.loop.hs at.loop.i at.loop.invariant (long st) (omega arith) }
 
-pub skip-all-spec : {M : Type 1} → statement M
-skip-all-spec =
+pub skip_all_spec : {M : Type 1} → statement M
+skip_all_spec =
     tie.close
     (tie.spec
     invariant-loop

@@ -3,11 +3,11 @@ use native.Mathlib.Omega.{arith}
 use mathlib.Core.Path.{◌≡◌, refl, sym, ap, ◌∙◌}
 use borrow.Author.Tests.{not-true, not-false}
 use borrow.Author.Rules.{rules}
-use Rattle.shelf.specs.Blocks.{blocksLeft, Steps}
-use Rattle.shelf.specs.Walk.{blocksAt}
-use Rattle.shelf.specs.Check.{badBody}
+use Rattle.shelf.specs.Blocks.{blocks_left, Steps}
+use Rattle.shelf.specs.Walk.{blocks_at}
+use Rattle.shelf.specs.Check.{bad_body}
 use Rattle.shelf.specs.declared.blocks.BlockStep.TheVariants.{Block, Last}
-use Rattle.shelf.proofs.Readings.{start_left, Judging, judge-start, judge-right, judge-wrong, judge-none}
+use Rattle.shelf.proofs.Readings.{start_left_lem, Judging, judge-start, judge-right, judge-wrong, judge-none}
 use Rattle.shelf.proofs.check.bad_body.Statement.{statement}
 use Rattle.shelf.proofs.check.bad_body.Tie as tie
 
@@ -30,8 +30,8 @@ enum-known-m : tie.Need-enum-known-m invariant-loop decreases-loop
 enum-known-m c = search rules
 
 -- the blocks that are left at the start
-started : (c : tie.After-new invariant-loop decreases-loop) → blocksLeft c.before.before.args.s.now c.new.result ≡ blocksAt c.before.before.args.s.now c.before.before.args.list.at c.before.before.args.list.count
-started c = rw c.new.ensures (start_left c.before.before.args.s.now c.before.before.args.list)
+started : (c : tie.After-new invariant-loop decreases-loop) → blocks_left c.before.before.args.s.now c.new.result ≡ blocks_at c.before.before.args.s.now c.before.before.args.list.at c.before.before.args.list.count
+started c = rw c.new.ensures (start_left_lem c.before.before.args.s.now c.before.before.args.list)
 
 -- the block that the step found
 found : (c : tie.After-known-told invariant-loop decreases-loop) →
@@ -64,7 +64,7 @@ returns c =
     let l = c.before.before.before.before.before.before.before.loop in
     let g = c.before.before.before.before.m.given in
     let w = sym c.before.right-body.ensures ∙ not-true c.before.right-body.result c.if1.true in
-    sym (sym (ap badBody (started c.before.before.before.before.before.before.before.before)) ∙ judge-wrong a.s.now n.result l.r f.0 g.0.1.0 g.0.1.1.0 g.0.1.1.1.0 g.0.0 f.1 f.2 l.invariant w)
+    sym (sym (ap bad_body (started c.before.before.before.before.before.before.before.before)) ∙ judge-wrong a.s.now n.result l.r f.0 g.0.1.0 g.0.1.1.0 g.0.1.1.1.0 g.0.0 f.1 f.2 l.invariant w)
 
 loop-less : tie.Need-loop-smaller invariant-loop decreases-loop
 loop-less c = (found c.before.before.before).2.fewer
@@ -87,10 +87,10 @@ returns-2 c =
     let l = c.before.before.before.loop in
     let e : c.before.before.next.result ≡ Last = cc in
     let d : Steps a.s.now l.r Last = rw e at c.before.before.next.ensures in
-    sym (sym (ap badBody (started c.before.before.before.before)) ∙ judge-none a.s.now c.before.before.before.before.new.result l.r d.0 l.invariant)
+    sym (sym (ap bad_body (started c.before.before.before.before)) ∙ judge-none a.s.now c.before.before.before.before.new.result l.r d.0 l.invariant)
 
-pub bad-body-spec : {M : Type 1} → statement M
-bad-body-spec =
+pub bad_body_spec : {M : Type 1} → statement M
+bad_body_spec =
     tie.close
     (tie.spec
     invariant-loop

@@ -26,5 +26,5 @@ returns-2 c =
     let f : a.known ≡ NoBad = cc in
     rw f c.bad-body.ensures
 
-pub bad-or-spec : {M : Type 1} → statement M
-bad-or-spec = tie.close (tie.spec enum-known-known enum_told bad-body-requires returns returns-2)
+pub bad_or_spec : {M : Type 1} → statement M
+bad_or_spec = tie.close (tie.spec enum-known-known enum_told bad-body-requires returns returns-2)

@@ -3,17 +3,17 @@
 use mathlib.Core.Path.{◌≡◌, sym, ap, ◌∙◌}
 use borrow.Author.Rules.{rules}
 use Rattle.shelf.specs.Check.{checked, judged}
-use Rattle.shelf.specs.Cursor.{walkStep, listsAt}
+use Rattle.shelf.specs.Cursor.{walk_step, lists_at}
 use Rattle.shelf.specs.declared.walk.Walk.{Walk}
 use Rattle.shelf.specs.declared.check.BadRead.TheVariants.{NoBad}
 use Rattle.shelf.specs.declared.walk.WalkStep.TheVariants as step
 use Rattle.shelf.proofs.Steps.{Turn, turn, walk_end, walk-fault}
-use Rattle.shelf.proofs.Checks.{finish, finish-turn, checked-start, finish-end}
+use Rattle.shelf.proofs.Checks.{finish, finish_turn, checked-start, finish_end}
 use Rattle.shelf.proofs.check.check.Statement.{statement}
 use Rattle.shelf.proofs.check.check.Tie as tie
 
 abbrev invariant-loop : tie.invariant-loop
-invariant-loop s w₀ bad₀ w bad = judged (checked s) ≡ judged (finish bad (listsAt s w))
+invariant-loop s w₀ bad₀ w bad = judged (checked s) ≡ judged (finish bad (lists_at s w))
 
 abbrev decreases-loop : tie.decreases-loop
 decreases-loop s w₀ bad₀ w bad = w.left
@@ -24,7 +24,7 @@ new-requires c κs = search rules
 loop-holds : tie.Need-loop-init invariant-loop decreases-loop
 loop-holds c =
     let s = c.before.before.args.s.now in
-    ap judged (checked-start s) ∙ ap (λ (x : Walk). judged (finish NoBad (listsAt s x))) (sym c.new.ensures)
+    ap judged (checked-start s) ∙ ap (λ (x : Walk). judged (finish NoBad (lists_at s x))) (sym c.new.ensures)
 
 next-requires : tie.Need-next-requires invariant-loop decreases-loop
 next-requires c κs = search rules
@@ -38,7 +38,7 @@ stepped : (c : tie.After-known-told invariant-loop decreases-loop) →
 stepped c =
     let s = c.before.before.before.before.before.before.before.args.s.now in
     let w = c.before.before.before.before.loop.w in
-    let f : walkStep s w ≡ step.List c.before.p.given.0.0 c.before.p.given.0.1.0 = cc in
+    let f : walk_step s w ≡ step.List c.before.p.given.0.0 c.before.p.given.0.1.0 = cc in
     turn s w c.before.p.given.0.0 c.before.p.given.0.1.0 f
 
 bad-or-requires : tie.Need-bad-or-requires invariant-loop decreases-loop
@@ -55,7 +55,7 @@ loop-again c =
     let k = stepped c.before in
     let p = c.before.before.p.given.0.0 in
     let next = c.before.before.p.given.0.1.0 in
-    l.invariant ∙ finish-turn s l.w next p l.bad k ∙ rw c.bad-or.ensures
+    l.invariant ∙ finish_turn s l.w next p l.bad k ∙ rw c.bad-or.ensures
 
 enum_told : tie.Need-enum-told invariant-loop decreases-loop
 enum_told c = search rules
@@ -67,8 +67,8 @@ returns : tie.Need-returns invariant-loop decreases-loop
 returns c =
     let l = c.before.before.before.before.loop in
     let s = c.before.before.before.before.before.before.before.args.s.now in
-    let f : walkStep s l.w ≡ step.End = cc in
-    c.verdict-of.ensures ∙ sym (l.invariant ∙ finish-end l.bad (listsAt s l.w) (walk_end s l.w f))
+    let f : walk_step s l.w ≡ step.End = cc in
+    c.verdict-of.ensures ∙ sym (l.invariant ∙ finish_end l.bad (lists_at s l.w) (walk_end s l.w f))
 
 enum-known-n : tie.Need-enum-known-n invariant-loop decreases-loop
 enum-known-n c = search rules
@@ -77,11 +77,11 @@ returns-2 : tie.Need-returns-2 invariant-loop decreases-loop
 returns-2 c =
     let l = c.before.before.before.before.loop in
     let s = c.before.before.before.before.before.before.before.args.s.now in
-    let f : walkStep s l.w ≡ step.Fault c.before.n.given.0.0 c.before.n.given.0.1.0 = cc in
+    let f : walk_step s l.w ≡ step.Fault c.before.n.given.0.0 c.before.n.given.0.1.0 = cc in
     rw (l.invariant, walk-fault s l.w c.before.n.given.0.0 c.before.n.given.0.1.0 f)
 
-pub check-spec : {M : Type 1} → statement M
-check-spec =
+pub check_spec : {M : Type 1} → statement M
+check_spec =
     tie.close
     (tie.spec
     invariant-loop

@@ -19,5 +19,5 @@ returns c =
 returns-2 : tie.Need-returns-2
 returns-2 c = search rules
 
-pub verdict-of-spec : {M : Type 1} → statement M
-verdict-of-spec = tie.close (tie.spec enum-known-bad enum_told returns returns-2)
+pub verdict_of_spec : {M : Type 1} → statement M
+verdict_of_spec = tie.close (tie.spec enum-known-bad enum_told returns returns-2)

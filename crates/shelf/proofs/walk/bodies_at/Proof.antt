@@ -2,9 +2,9 @@
 use Rattle.wire.specs.Field.{field_at}
 use Rattle.wire.specs.declared.field.FieldRead.TheVariants.{Whole, Missing}
 use Rattle.wire.proofs.Fields.{field_room, field_is, field-not}
-use Rattle.block.specs.Body.{isStrip, tagOf}
-use Rattle.shelf.specs.Walk.{bodies, bodiesOf}
-use Rattle.shelf.proofs.Walks.{bodies-none, bodies-step, bodies-missing}
+use Rattle.block.specs.Body.{is_strip, tag_of}
+use Rattle.shelf.specs.Walk.{bodies, bodies_of}
+use Rattle.shelf.proofs.Walks.{bodies-none, bodies-step, bodies_missing}
 use Prim.Native.Nat.{ℕ, ◌+◌, ◌-◌, ◌≤◌}
 use native.Mathlib.Omega.{arith}
 use mathlib.Core.Path.{◌≡◌, refl, ap, ◌∙◌}
@@ -15,7 +15,7 @@ use Rattle.shelf.proofs.walk.bodies_at.Statement.{statement}
 use Rattle.shelf.proofs.walk.bodies_at.Tie as tie
 
 abbrev invariant-loop : tie.invariant-loop
-invariant-loop s at n tag p₀ left₀ p left = bodies n at (drop at s) ≡ bodiesOf (isStrip (drop at s)) left p (drop p s)
+invariant-loop s at n tag p₀ left₀ p left = bodies n at (drop at s) ≡ bodies_of (is_strip (drop at s)) left p (drop p s)
 
 abbrev decreases-loop : tie.decreases-loop
 decreases-loop s at n tag p₀ left₀ p left = left
@@ -38,13 +38,13 @@ enum-known-len c = search rules
 
 -- the layout of all, and the body that the call found
 abbrev strip : (c : tie.After-tag-of invariant-loop decreases-loop) → Bool
-strip c = isStrip (drop c.before.before.before.args.at c.before.before.before.args.s.now)
+strip c = is_strip (drop c.before.before.before.args.at c.before.before.before.args.s.now)
 
-found : (c : tie.After-known-told invariant-loop decreases-loop) → field_at (tagOf (strip c.before.before.before.before.before.before)) c.before.before.before.before.before.before.before.before.before.args.s.now c.before.before.before.before.before.loop.p ≡ Whole c.before.len.given.0.0
+found : (c : tie.After-known-told invariant-loop decreases-loop) → field_at (tag_of (strip c.before.before.before.before.before.before)) c.before.before.before.before.before.before.before.before.before.args.s.now c.before.before.before.before.before.loop.p ≡ Whole c.before.len.given.0.0
 found c = cc
 
 room : (c : tie.After-known-told invariant-loop decreases-loop) → c.before.before.before.before.before.loop.p + (3 + c.before.len.given.0.0) ≤ length c.before.before.before.before.before.before.before.before.before.args.s.now
-room c = field_room (tagOf (strip c.before.before.before.before.before.before)) c.before.before.before.before.before.before.before.before.before.args.s.now c.before.before.before.before.before.loop.p c.before.len.given.0.0 (found c)
+room c = field_room (tag_of (strip c.before.before.before.before.before.before)) c.before.before.before.before.before.before.before.before.before.args.s.now c.before.before.before.before.before.loop.p c.before.len.given.0.0 (found c)
 
 add-p : tie.Need-overflow-add-p invariant-loop decreases-loop
 add-p c = omega (arith, room c)
@@ -63,8 +63,8 @@ loop-again c =
     let l = c.before.before.before.before.before.loop in
     let s = c.before.before.before.before.before.before.before.before.before.args.s.now in
     let t = strip c.before.before.before.before.before.before in
-    let i = field_is (tagOf t) s l.p c.before.len.given.0.0 (found c) in
-    l.invariant ∙ bodies-step t l.left l.p s c.before.before.before.before.loop-test.true i.0 ∙ ap (λ (x : ℕ). bodiesOf t (l.left - 1) (l.p + (3 + x)) (drop (l.p + (3 + x)) s)) i.1
+    let i = field_is (tag_of t) s l.p c.before.len.given.0.0 (found c) in
+    l.invariant ∙ bodies-step t l.left l.p s c.before.before.before.before.loop-test.true i.0 ∙ ap (λ (x : ℕ). bodies_of t (l.left - 1) (l.p + (3 + x)) (drop (l.p + (3 + x)) s)) i.1
 
 enum_told : tie.Need-enum-told invariant-loop decreases-loop
 enum_told c = search rules
@@ -74,16 +74,16 @@ returns c =
     let l = c.before.before.before.before.loop in
     let s = c.before.before.before.before.before.before.before.before.args.s.now in
     let t = strip c.before.before.before.before.before in
-    let f : field_at (tagOf t) s l.p ≡ Missing = cc in
-    rw (l.invariant, bodies-missing t l.left l.p s c.before.before.before.loop-test.true (field-not (tagOf t) s l.p f))
+    let f : field_at (tag_of t) s l.p ≡ Missing = cc in
+    rw (l.invariant, bodies_missing t l.left l.p s c.before.before.before.loop-test.true (field-not (tag_of t) s l.p f))
 
 returns-2 : tie.Need-returns-2 invariant-loop decreases-loop
 returns-2 c =
     let l = c.before.loop in
     rw (l.invariant, bodies-none (strip c.before.before) l.left l.p c.before.before.before.before.before.args.s.now c.loop-test.false)
 
-pub bodies-at-spec : {M : Type 1} → statement M
-bodies-at-spec =
+pub bodies_at_spec : {M : Type 1} → statement M
+bodies_at_spec =
     tie.close
     (tie.spec
     invariant-loop

@@ -2,7 +2,7 @@
 use Rattle.wire.specs.Field.{field_at}
 use Rattle.wire.specs.declared.field.FieldRead.TheVariants.{Whole, Missing}
 use Rattle.wire.proofs.Fields.{field_room}
-use Rattle.shelf.proofs.Walks.{head-none, head-other, head-low, head-zero, head-many, head-there}
+use Rattle.shelf.proofs.Walks.{head-none, head-other, head_low, head-zero, head_many, head-there}
 use Prim.Native.Nat.{◌+◌, ◌≤◌}
 use native.Mathlib.Omega.{arith}
 use mathlib.Core.Path.{◌≡◌, sym}
@@ -43,13 +43,13 @@ cast-if2 : tie.Need-overflow-cast-if2
 cast-if2 c = search rules
 
 returns-2 : tie.Need-returns-2
-returns-2 c = let a = c.before.before.before.before.before.before.before.before.before.args in sym (head-low a.floor a.s.now a.at c.before.before.before.before.before.n.given.0.0 c.before.before.be4.result c.before.be1.result (found c.before.before.before.before) c.before.before.before.if1.false c.before.before.be4.ensures c.before.be1.ensures c.if2.true)
+returns-2 c = let a = c.before.before.before.before.before.before.before.before.before.args in sym (head_low a.floor a.s.now a.at c.before.before.before.before.before.n.given.0.0 c.before.before.be4.result c.before.be1.result (found c.before.before.before.before) c.before.before.before.if1.false c.before.before.be4.ensures c.before.be1.ensures c.if2.true)
 
 returns-3 : tie.Need-returns-3
 returns-3 c = let a = c.before.before.before.before.before.before.before.before.before.before.args in sym (head-zero a.floor a.s.now a.at c.before.before.before.before.before.before.n.given.0.0 c.before.before.before.be4.result c.before.before.be1.result (found c.before.before.before.before.before) c.before.before.before.before.if1.false c.before.before.before.be4.ensures c.before.before.be1.ensures c.before.if2.false c.if3.true)
 
 returns-4 : tie.Need-returns-4
-returns-4 c = let a = c.before.before.before.before.before.before.before.before.before.before.before.args in sym (head-many a.floor a.s.now a.at c.before.before.before.before.before.before.before.n.given.0.0 c.before.before.before.before.be4.result c.before.before.before.be1.result (found c.before.before.before.before.before.before) c.before.before.before.before.before.if1.false c.before.before.before.before.be4.ensures c.before.before.before.be1.ensures c.before.before.if2.false c.before.if3.false c.if4.true)
+returns-4 c = let a = c.before.before.before.before.before.before.before.before.before.before.before.args in sym (head_many a.floor a.s.now a.at c.before.before.before.before.before.before.before.n.given.0.0 c.before.before.before.before.be4.result c.before.before.before.be1.result (found c.before.before.before.before.before.before) c.before.before.before.before.before.if1.false c.before.before.before.before.be4.ensures c.before.before.before.be1.ensures c.before.before.if2.false c.before.if3.false c.if4.true)
 
 enum_told : tie.Need-enum-told
 enum_told c = search rules
@@ -63,8 +63,8 @@ returns-6 c =
     let f : field_at 1 a.s.now a.at ≡ Missing = cc in
     sym (head-none a.floor a.s.now a.at f)
 
-pub head-at-spec : {M : Type 1} → statement M
-head-at-spec =
+pub head_at_spec : {M : Type 1} → statement M
+head_at_spec =
     tie.close
     (tie.spec
     field-requires

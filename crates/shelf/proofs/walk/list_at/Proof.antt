@@ -1,9 +1,9 @@
 -- `shelf::walk::list_at` meets its contract: each return is a law of `Walks` at what its parts were found to be. Assumes nothing.
 use Rattle.shelf.specs.Walk.{sums, bodies}
-use Rattle.shelf.specs.Answers.{headAt, place_of}
+use Rattle.shelf.specs.Answers.{head_at, place_of}
 use Rattle.shelf.specs.declared.walk.HeadRead.TheVariants.{Head, NoHead}
 use Rattle.shelf.specs.declared.walk.PlaceRead.TheVariants.{Past, Refused}
-use Rattle.shelf.proofs.Walks.{head-found, head-room, list-no-head, list-no-sums, list-no-bodies, list-whole}
+use Rattle.shelf.proofs.Walks.{head-found, head-room, list_no_head, list_no_sums, list_no_bodies, list-whole}
 use Prim.Native.Nat.{◌+◌}
 use native.Mathlib.Omega.{arith}
 use mathlib.Core.Path.{◌≡◌, sym}
@@ -21,7 +21,7 @@ enum-known-term c = search rules
 add-sums-at : tie.Need-overflow-add-sums-at
 add-sums-at c =
     let a = c.before.before.before.before.before.args in
-    let h : headAt a.floor a.s.now a.at ≡ Head c.before.term.given.0.0 c.before.term.given.0.1.0 = cc in
+    let h : head_at a.floor a.s.now a.at ≡ Head c.before.term.given.0.0 c.before.term.given.0.1.0 = cc in
     let f = head-found a.floor a.s.now a.at c.before.term.given.0.0 c.before.term.given.0.1.0 h in
     omega (arith, head-room a.floor (drop a.at a.s.now) f.0, length-drop a.at a.s.now)
 
@@ -49,7 +49,7 @@ enum_told c = search rules
 returns : tie.Need-returns
 returns c =
     let a = c.before.before.before.before.before.before.before.before.before.before.before.before.before.args in
-    let h : headAt a.floor a.s.now a.at ≡ Head c.before.before.before.before.before.before.before.before.before.term.given.0.0 c.before.before.before.before.before.before.before.before.before.term.given.0.1.0 = cc in
+    let h : head_at a.floor a.s.now a.at ≡ Head c.before.before.before.before.before.before.before.before.before.term.given.0.0 c.before.before.before.before.before.before.before.before.before.term.given.0.1.0 = cc in
     let n = c.before.before.before.before.before.before.before.before.before.term.given.0.1.0 in
     let q : place_of (sums n 0 (a.at + 8) (drop (a.at + 8) a.s.now)) ≡ Past c.before.before.before.before.before.b.given.0.0 = cc in
     let r : place_of (bodies n c.before.before.before.before.before.b.given.0.0 (drop c.before.before.before.before.before.b.given.0.0 a.s.now)) ≡ Past c.before.next.given.0.0 = cc in
@@ -58,28 +58,28 @@ returns c =
 returns-2 : tie.Need-returns-2
 returns-2 c =
     let a = c.before.before.before.before.before.before.before.before.before.before.before.before.before.args in
-    let h : headAt a.floor a.s.now a.at ≡ Head c.before.before.before.before.before.before.before.before.before.term.given.0.0 c.before.before.before.before.before.before.before.before.before.term.given.0.1.0 = cc in
+    let h : head_at a.floor a.s.now a.at ≡ Head c.before.before.before.before.before.before.before.before.before.term.given.0.0 c.before.before.before.before.before.before.before.before.before.term.given.0.1.0 = cc in
     let n = c.before.before.before.before.before.before.before.before.before.term.given.0.1.0 in
     let q : place_of (sums n 0 (a.at + 8) (drop (a.at + 8) a.s.now)) ≡ Past c.before.before.before.before.before.b.given.0.0 = cc in
     let r : place_of (bodies n c.before.before.before.before.before.b.given.0.0 (drop c.before.before.before.before.before.b.given.0.0 a.s.now)) ≡ Refused c.before.n.given.0.0 c.before.n.given.0.1.0 = cc in
-    sym (list-no-bodies a.floor a.at a.s.now c.before.before.before.before.before.before.before.before.before.term.given.0.0 n h c.before.before.before.before.before.b.given.0.0 q c.before.n.given.0.0 c.before.n.given.0.1.0 r)
+    sym (list_no_bodies a.floor a.at a.s.now c.before.before.before.before.before.before.before.before.before.term.given.0.0 n h c.before.before.before.before.before.b.given.0.0 q c.before.n.given.0.0 c.before.n.given.0.1.0 r)
 
 returns-3 : tie.Need-returns-3
 returns-3 c =
     let a = c.before.before.before.before.before.before.before.before.before.args in
-    let h : headAt a.floor a.s.now a.at ≡ Head c.before.before.before.before.before.term.given.0.0 c.before.before.before.before.before.term.given.0.1.0 = cc in
+    let h : head_at a.floor a.s.now a.at ≡ Head c.before.before.before.before.before.term.given.0.0 c.before.before.before.before.before.term.given.0.1.0 = cc in
     let n = c.before.before.before.before.before.term.given.0.1.0 in
     let q : place_of (sums n 0 (a.at + 8) (drop (a.at + 8) a.s.now)) ≡ Refused c.before.n2.given.0.0 c.before.n2.given.0.1.0 = cc in
-    sym (list-no-sums a.floor a.at a.s.now c.before.before.before.before.before.term.given.0.0 n h c.before.n2.given.0.0 c.before.n2.given.0.1.0 q)
+    sym (list_no_sums a.floor a.at a.s.now c.before.before.before.before.before.term.given.0.0 n h c.before.n2.given.0.0 c.before.n2.given.0.1.0 q)
 
 returns-4 : tie.Need-returns-4
 returns-4 c =
     let a = c.before.before.before.before.args in
-    let h : headAt a.floor a.s.now a.at ≡ NoHead = cc in
-    sym (list-no-head a.floor a.at a.s.now h)
+    let h : head_at a.floor a.s.now a.at ≡ NoHead = cc in
+    sym (list_no_head a.floor a.at a.s.now h)
 
-pub list-at-spec : {M : Type 1} → statement M
-list-at-spec =
+pub list_at_spec : {M : Type 1} → statement M
+list_at_spec =
     tie.close
     (tie.spec
     head-at-requires

@@ -12,5 +12,5 @@ rem-result c = search rules
 returns : tie.Need-returns
 returns c = mod-lt _ (search rules)
 
-pub draw-spec : {M : Type 1} → statement M
-draw-spec = tie.close (tie.spec mul-moved rem-result returns)
+pub draw_spec : {M : Type 1} → statement M
+draw_spec = tie.close (tie.spec mul-moved rem-result returns)

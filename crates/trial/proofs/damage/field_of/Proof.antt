@@ -33,8 +33,8 @@ loop-again c = search rules
 returns-2 : tie.Need-returns-2 invariant-loop decreases-loop
 returns-2 c = search rules
 
-pub field-of-spec : {M : Type 1} → statement M
-field-of-spec =
+pub field_of_spec : {M : Type 1} → statement M
+field_of_spec =
     tie.close
     (tie.spec
     invariant-loop

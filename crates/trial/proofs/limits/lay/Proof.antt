@@ -54,8 +54,8 @@ same-length-2 c = search rules
 returns : tie.Need-returns invariant-loop decreases-loop
 returns c = search rules
 
-pub lay-spec : {M : Type 1} → statement M
-lay-spec =
+pub lay_spec : {M : Type 1} → statement M
+lay_spec =
     tie.close
     (tie.spec
     invariant-loop

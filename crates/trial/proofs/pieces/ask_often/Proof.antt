@@ -30,8 +30,8 @@ same_length c = search rules
 returns : tie.Need-returns invariant-loop decreases-loop
 returns c = search rules
 
-pub ask-often-spec : {M : Type 1} → statement M
-ask-often-spec =
+pub ask_often_spec : {M : Type 1} → statement M
+ask_often_spec =
     tie.close
     (tie.spec
     invariant-loop

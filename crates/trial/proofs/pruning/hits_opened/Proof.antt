@@ -45,8 +45,8 @@ loop-again c = search rules
 returns-3 : tie.Need-returns-3 invariant-loop decreases-loop
 returns-3 c = search rules
 
-pub hits-opened-spec : {M : Type 1} → statement M
-hits-opened-spec =
+pub hits_opened_spec : {M : Type 1} → statement M
+hits_opened_spec =
     tie.close
     (tie.spec
     invariant-loop

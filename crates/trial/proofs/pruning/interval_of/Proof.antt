@@ -36,8 +36,8 @@ sub-result-2 c = search rules
 returns-2 : tie.Need-returns-2 invariant-loop decreases-loop
 returns-2 c = search rules
 
-pub interval-of-spec : {M : Type 1} → statement M
-interval-of-spec =
+pub interval_of_spec : {M : Type 1} → statement M
+interval_of_spec =
     tie.close
     (tie.spec
     invariant-loop

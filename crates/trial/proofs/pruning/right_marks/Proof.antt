@@ -39,8 +39,8 @@ loop-again c = search rules
 returns-2 : tie.Need-returns-2 invariant-loop decreases-loop
 returns-2 c = search rules
 
-pub right-marks-spec : {M : Type 1} → statement M
-right-marks-spec =
+pub right_marks_spec : {M : Type 1} → statement M
+right_marks_spec =
     tie.close
     (tie.spec
     invariant-loop

@@ -33,8 +33,8 @@ same_length c = search rules
 returns : tie.Need-returns invariant-loop decreases-loop
 returns c = search rules
 
-pub add-up-spec : {M : Type 1} → statement M
-add-up-spec =
+pub add_up_spec : {M : Type 1} → statement M
+add_up_spec =
     tie.close
     (tie.spec
     invariant-loop

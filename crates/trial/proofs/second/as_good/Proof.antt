@@ -30,8 +30,8 @@ loop-again c = search rules
 returns : tie.Need-returns invariant-loop decreases-loop
 returns c = search rules
 
-pub as-good-spec : {M : Type 1} → statement M
-as-good-spec =
+pub as_good_spec : {M : Type 1} → statement M
+as_good_spec =
     tie.close
     (tie.spec
     invariant-loop

@@ -27,7 +27,7 @@ loop-again c = search rules
 returns : tie.Need-returns invariant-loop decreases-loop
 returns c = search rules
 
-pub best-spec : {M : Type 1} → statement M
-best-spec =
+pub best_spec : {M : Type 1} → statement M
+best_spec =
     tie.close
     (tie.spec invariant-loop decreases-loop loop-holds better-requires add-s loop-less loop-again returns)

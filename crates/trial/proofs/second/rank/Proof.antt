@@ -36,8 +36,8 @@ same-length-3 c = search rules
 returns : tie.Need-returns invariant-loop decreases-loop
 returns c = search rules
 
-pub rank-spec : {M : Type 1} → statement M
-rank-spec =
+pub rank_spec : {M : Type 1} → statement M
+rank_spec =
     tie.close
     (tie.spec
     invariant-loop

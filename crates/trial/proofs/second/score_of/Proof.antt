@@ -36,8 +36,8 @@ loop-again c = search rules
 returns : tie.Need-returns invariant-loop decreases-loop
 returns c = search rules
 
-pub score-of-spec : {M : Type 1} → statement M
-score-of-spec =
+pub score_of_spec : {M : Type 1} → statement M
+score_of_spec =
     tie.close
     (tie.spec
     invariant-loop

@@ -11,5 +11,5 @@ mul-result c =
 returns : tie.Need-returns
 returns c = search rules
 
-pub weighted-spec : {M : Type 1} → statement M
-weighted-spec = tie.close (tie.spec mul-result returns)
+pub weighted_spec : {M : Type 1} → statement M
+weighted_spec = tie.close (tie.spec mul-result returns)

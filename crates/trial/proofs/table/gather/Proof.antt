@@ -39,8 +39,8 @@ same-length-2 c = search rules
 returns : tie.Need-returns invariant-loop decreases-loop
 returns c = search rules
 
-pub gather-spec : {M : Type 1} → statement M
-gather-spec =
+pub gather_spec : {M : Type 1} → statement M
+gather_spec =
     tie.close
     (tie.spec
     invariant-loop

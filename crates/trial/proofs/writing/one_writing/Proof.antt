@@ -30,8 +30,8 @@ same_length c = search rules
 returns : tie.Need-returns invariant-loop decreases-loop
 returns c = search rules
 
-pub one-writing-spec : {M : Type 1} → statement M
-one-writing-spec =
+pub one_writing_spec : {M : Type 1} → statement M
+one_writing_spec =
     tie.close
     (tie.spec
     invariant-loop

@@ -66,8 +66,8 @@ same_length c = search rules
 returns-3 : tie.Need-returns-3 invariant-loop decreases-loop
 returns-3 c = search rules
 
-pub put-gap-spec : {M : Type 1} → statement M
-put-gap-spec =
+pub put_gap_spec : {M : Type 1} → statement M
+put_gap_spec =
     tie.close
     (tie.spec
     invariant-loop

@@ -30,8 +30,8 @@ same_length c = search rules
 returns : tie.Need-returns invariant-loop decreases-loop
 returns c = search rules
 
-pub put-run-spec : {M : Type 1} → statement M
-put-run-spec =
+pub put_run_spec : {M : Type 1} → statement M
+put_run_spec =
     tie.close
     (tie.spec
     invariant-loop

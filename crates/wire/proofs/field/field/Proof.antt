@@ -38,8 +38,8 @@ returns-5 c = let a = c.before.before.before.before.before.before.before.args in
     rw c.before.be2.ensures
     (sym (field-there a.tag a.s.now a.at (omega arith) c.before.before.if3.false (omega (arith, c.before.be2.ensures))))
 
-pub field-spec : {M : Type 1} → statement M
-field-spec =
+pub field_spec : {M : Type 1} → statement M
+field_spec =
     tie.close
     (tie.spec
     returns

@@ -1,5 +1,5 @@
 -- `wire::put_head` meets its contract: two stores, one after the other. Assumes nothing.
-use Rattle.model.proofs.Storing.{stored-append, stored-as, stored-length}
+use Rattle.model.proofs.Storing.{stored-append, stored_as, stored-length}
 use Rattle.wire.specs.Number.{be}
 use Rattle.wire.proofs.Numbers.{be-length, be-one}
 use Prim.Native.Nat.{ℕ}
@@ -22,7 +22,7 @@ same_length c = search rules
 returns : tie.Need-returns
 returns c =
     let a = c.before.before.before.before.before.before.before.before.before.args in
-    stored-as (ap (λ (l : List ℕ). l ++ be 2 a.n) (be-one a.tag (omega arith))) (stored-append c.before.before.before.before.before.before.put1.ensures c.before.before.put2.ensures)
+    stored_as (ap (λ (l : List ℕ). l ++ be 2 a.n) (be-one a.tag (omega arith))) (stored-append c.before.before.before.before.before.before.put1.ensures c.before.before.put2.ensures)
 
-pub put-head-spec : {M : Type 1} → statement M
-put-head-spec = tie.close (tie.spec put1-requires put2-requires same_length returns)
+pub put_head_spec : {M : Type 1} → statement M
+put_head_spec = tie.close (tie.spec put1-requires put2-requires same_length returns)

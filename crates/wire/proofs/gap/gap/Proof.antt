@@ -29,7 +29,7 @@ gap-in-requires c κs = search rules
 returns-3 : tie.Need-returns-3
 returns-3 c = search rules
 
-pub gap-spec : {M : Type 1} → statement M
-gap-spec =
+pub gap_spec : {M : Type 1} → statement M
+gap_spec =
     tie.close
     (tie.spec returns shared-slice-read-b cast-b add-t9 returns-2 gap-in-requires returns-3)

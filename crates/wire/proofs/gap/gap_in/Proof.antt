@@ -5,7 +5,7 @@ use native.Mathlib.Nat.{sub_self, pow-succ', pow-le-pow_right, mul-le-mul_left}
 use mathlib.Core.Path.{◌≡◌, refl, ◌∙◌}
 use borrow.Author.Rules.{rules}
 use lib.ListN.{get_or}
-use Rattle.wire.specs.Gap.{gapAt}
+use Rattle.wire.specs.Gap.{gap_at}
 use Rattle.wire.proofs.Gaps.{whole_at, whole-start, whole-more, gap-none, gap-end, gap-last}
 use Rattle.wire.proofs.gap.gap_in.Statement.{statement}
 use Rattle.wire.proofs.gap.gap_in.Tie as tie
@@ -32,7 +32,7 @@ placed-next at most i left v unit b s p l =
     (omega (arith, s.0), omega (arith, s.0, s.1), rw (e, pow-succ' 128 (i - at)) (omega (arith, s.2)), low_bits v unit b s.3 l)
 
 abbrev invariant-loop : tie.invariant-loop
-invariant-loop s at most v₀ unit₀ i₀ left₀ v unit i left = Placed at most i left v unit × (gapAt most s at ≡ whole_at at i v unit (gapAt left s i))
+invariant-loop s at most v₀ unit₀ i₀ left₀ v unit i left = Placed at most i left v unit × (gap_at most s at ≡ whole_at at i v unit (gap_at left s i))
 
 abbrev decreases-loop : tie.decreases-loop
 decreases-loop s at most v₀ unit₀ i₀ left₀ v unit i left = left
@@ -121,8 +121,8 @@ returns-4 c =
     let z : l.left ≡ 0 = omega arith in
     rw (l.invariant.1, z, gap-none a.s.now l.i)
 
-pub gap-in-spec : {M : Type 1} → statement M
-gap-in-spec =
+pub gap_in_spec : {M : Type 1} → statement M
+gap_in_spec =
     tie.close
     (tie.spec
     invariant-loop

@@ -1,6 +1,6 @@
 -- `wire::put_gap` meets its contract. The invariant: to store what is left of the number from here gives what is asked. Assumes nothing.
-use Rattle.wire.specs.Gap.{gapIn}
-use Rattle.wire.proofs.Gaps.{in-last, in_step, in_some}
+use Rattle.wire.specs.Gap.{gap_in}
+use Rattle.wire.proofs.Gaps.{in_last, in_step, in_some}
 use Prim.Native.Nat.{ℕ, zero, suc, ◌+◌, ◌/◌, ◌%◌, ◌^◌, ◌≤◌, ◌<◌}
 use native.Mathlib.Omega.{arith}
 use native.Mathlib.Numerals.{add-one}
@@ -14,14 +14,14 @@ use Rattle.wire.proofs.gap.put_gap.Tie as tie
 abbrev invariant-loop : tie.invariant-loop
 invariant-loop out₀ at g n₀ i₀ out n i =
     (f : ℕ) × (n < 128 ^ suc f) × (length out ≡ length out₀)
-    × (i + length (gapIn (suc f) n) ≡ at + length (gapIn 5 g)) × (sets out i (gapIn (suc f) n) ≡ sets out₀ at (gapIn 5 g))
+    × (i + length (gap_in (suc f) n) ≡ at + length (gap_in 5 g)) × (sets out i (gap_in (suc f) n) ≡ sets out₀ at (gap_in 5 g))
 
 -- a turn: the low seven bits are stored, and the rest of the number is left
 turn : (out₀ out : List ℕ) (at g n i f : ℕ) → 128 ≤ n → n < 128 ^ suc f → length out ≡ length out₀
-    → i + length (gapIn (suc f) n) ≡ at + length (gapIn 5 g) → sets out i (gapIn (suc f) n) ≡ sets out₀ at (gapIn 5 g)
+    → i + length (gap_in (suc f) n) ≡ at + length (gap_in 5 g) → sets out i (gap_in (suc f) n) ≡ sets out₀ at (gap_in 5 g)
     → (x : ℕ) × (n / 128 < 128 ^ suc x) × (length (set out i (128 + n % 128)) ≡ length out₀)
-    × (i + 1 + length (gapIn (suc x) (n / 128)) ≡ at + length (gapIn 5 g))
-    × (sets (set out i (128 + n % 128)) (i + 1) (gapIn (suc x) (n / 128)) ≡ sets out₀ at (gapIn 5 g))
+    × (i + 1 + length (gap_in (suc x) (n / 128)) ≡ at + length (gap_in 5 g))
+    × (sets (set out i (128 + n % 128)) (i + 1) (gap_in (suc x) (n / 128)) ≡ sets out₀ at (gap_in 5 g))
 turn out₀ out at g n i zero big small len end all = absurd (omega arith)
 turn out₀ out at g n i (suc f) big small len end all = (
   f,
@@ -73,11 +73,11 @@ same_length c = simp length-set c.before.loop.invariant.2
 returns : tie.Need-returns invariant-loop decreases-loop
 returns c =
     let v = c.before.loop.invariant in
-    let e = in-last v.0 c.before.loop.n c.loop-test.false in
+    let e = in_last v.0 c.before.loop.n c.loop-test.false in
     record { past = omega (arith, simp e at v.3); whole = simp e at v.4 }
 
-pub put-gap-spec : {M : Type 1} → statement M
-put-gap-spec =
+pub put_gap_spec : {M : Type 1} → statement M
+put_gap_spec =
     tie.close
     (tie.spec
     invariant-loop

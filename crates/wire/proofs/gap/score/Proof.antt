@@ -26,5 +26,5 @@ returns-4 c = let a = c.before.before.before.before.before.args in
     rw c.before.be2.ensures
     (sym (score-there a.s.now a.at (omega arith) (λ e. c.if3.false (c.before.be2.ensures ∙ e))))
 
-pub score-spec : {M : Type 1} → statement M
-score-spec = tie.close (tie.spec returns returns-2 be2-requires add-t8 returns-3 returns-4)
+pub score_spec : {M : Type 1} → statement M
+score_spec = tie.close (tie.spec returns returns-2 be2-requires add-t8 returns-3 returns-4)

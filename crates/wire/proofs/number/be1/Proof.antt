@@ -1,5 +1,5 @@
 -- `wire::be1` meets its contract. Assumes nothing.
-use Rattle.wire.proofs.Numbers.{num-1}
+use Rattle.wire.proofs.Numbers.{num_1}
 use mathlib.Core.Path.{sym}
 use borrow.Author.Rules.{rules}
 use Rattle.wire.proofs.number.be1.Statement.{statement}
@@ -9,7 +9,7 @@ shared-slice-read-result : tie.Need-shared-slice-read-result
 shared-slice-read-result c = search rules
 
 returns : tie.Need-returns
-returns c = sym (num-1 c.before.args.at c.before.args.s.now c.before.requires)
+returns c = sym (num_1 c.before.args.at c.before.args.s.now c.before.requires)
 
-pub be1-spec : {M : Type 1} → statement M
-be1-spec = tie.close (tie.spec shared-slice-read-result returns)
+pub be1_spec : {M : Type 1} → statement M
+be1_spec = tie.close (tie.spec shared-slice-read-result returns)

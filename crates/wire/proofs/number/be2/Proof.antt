@@ -32,8 +32,8 @@ returns c =
     let a = c.before.before.before.args in
     omega (arith, num-at 1 a.at a.s.now (omega arith), c.before.be1.ensures)
 
-pub be2-spec : {M : Type 1} → statement M
-be2-spec =
+pub be2_spec : {M : Type 1} → statement M
+be2_spec =
     tie.close
     (tie.spec
     be1-requires

@@ -32,8 +32,8 @@ returns c =
     let a = c.before.before.before.args in
     omega (arith, num-at 2 a.at a.s.now (omega arith), c.before.be2.ensures)
 
-pub be3-spec : {M : Type 1} → statement M
-be3-spec =
+pub be3_spec : {M : Type 1} → statement M
+be3_spec =
     tie.close
     (tie.spec
     be2-requires

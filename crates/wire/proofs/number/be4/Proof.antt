@@ -1,5 +1,5 @@
 -- `wire::be4` meets its contract: two numbers of two bytes. Assumes nothing.
-use Rattle.wire.proofs.Numbers.{num-4}
+use Rattle.wire.proofs.Numbers.{num_4}
 use native.Mathlib.Omega.{arith}
 use borrow.Author.Rules.{rules}
 use Rattle.wire.proofs.number.be4.Statement.{statement}
@@ -29,10 +29,10 @@ add-result c = search rules
 returns : tie.Need-returns
 returns c =
     let a = c.before.before.before.args in
-    omega (arith, num-4 a.at a.s.now (omega arith), c.before.be2.ensures, c.be22.ensures)
+    omega (arith, num_4 a.at a.s.now (omega arith), c.before.be2.ensures, c.be22.ensures)
 
-pub be4-spec : {M : Type 1} → statement M
-be4-spec =
+pub be4_spec : {M : Type 1} → statement M
+be4_spec =
     tie.close
     (tie.spec
     be2-requires

@@ -17,5 +17,5 @@ same_length c = search rules
 returns : tie.Need-returns
 returns c = record { past = omega (arith, be-length 1 c.args.b); whole = rw (be-one c.args.b (omega arith)) }
 
-pub put1-spec : {M : Type 1} → statement M
-put1-spec = tie.close (tie.spec slice-write-out add-result same_length returns)
+pub put1_spec : {M : Type 1} → statement M
+put1_spec = tie.close (tie.spec slice-write-out add-result same_length returns)

@@ -1,5 +1,5 @@
 -- `wire::put2` meets its contract: two stores, one after the other. Assumes nothing.
-use Rattle.model.proofs.Storing.{stored-append, stored-as, stored-length}
+use Rattle.model.proofs.Storing.{stored-append, stored_as, stored-length}
 use Rattle.wire.proofs.Numbers.{be-length, be-more}
 use Prim.Native.Nat.{◌/◌}
 use native.Mathlib.Omega.{arith}
@@ -23,8 +23,8 @@ same_length : tie.Need-same-length
 same_length c = search rules
 
 returns : tie.Need-returns
-returns c = stored-as (be-more 1 c.before.before.before.before.before.before.before.before.before.args.x) (stored-append c.before.before.before.before.before.before.put1.ensures c.before.before.put12.ensures)
+returns c = stored_as (be-more 1 c.before.before.before.before.before.before.before.before.before.args.x) (stored-append c.before.before.before.before.before.before.put1.ensures c.before.before.put12.ensures)
 
-pub put2-spec : {M : Type 1} → statement M
-put2-spec =
+pub put2_spec : {M : Type 1} → statement M
+put2_spec =
     tie.close (tie.spec cast-put1 put1-requires cast-put1-2 put1-requires-2 same_length returns)

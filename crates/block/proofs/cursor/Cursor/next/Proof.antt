@@ -1,8 +1,8 @@
 -- `block::cursor::Cursor::next` meets its contract: each return is a law of `Steps` at the tests that led there. Assumes nothing.
-use Rattle.wire.specs.Gap.{gapAt}
+use Rattle.wire.specs.Gap.{gap_at}
 use Rattle.wire.specs.declared.gap.GapRead.TheVariants.{Gap, NoGap}
 use Rattle.wire.proofs.Gaps.{gap_below}
-use Rattle.block.proofs.Steps.{step_end, step-over, step-spare, step-first, step-gap, step-above, step-not}
+use Rattle.block.proofs.Steps.{step_end, step_over, step_spare, step-first, step-gap, step-above, step-not}
 use native.Mathlib.Nat.{le_refl}
 use native.Mathlib.Omega.{arith}
 use mathlib.Core.Path.{◌≡◌, sym}
@@ -11,10 +11,10 @@ use Rattle.block.proofs.cursor.Cursor.next.Statement.{statement}
 use Rattle.block.proofs.cursor.Cursor.next.Tie as tie
 
 returns : tie.Need-returns
-returns c = let a = c.before.before.before.before.before.args in sym (step-over a.gaps.now a.points.now a.self c.before.if1.true c.if2.true)
+returns c = let a = c.before.before.before.before.before.args in sym (step_over a.gaps.now a.points.now a.self c.before.if1.true c.if2.true)
 
 returns-2 : tie.Need-returns-2
-returns-2 c = let a = c.before.before.before.before.before.before.before.args in sym (step-spare a.gaps.now a.points.now a.self c.before.before.before.if1.true c.before.before.if2.false c.if3.true)
+returns-2 c = let a = c.before.before.before.before.before.before.before.args in sym (step_spare a.gaps.now a.points.now a.self c.before.before.before.if1.true c.before.before.if2.false c.if3.true)
 
 returns-3 : tie.Need-returns-3
 returns-3 c = let a = c.before.before.before.before.before.before.before.args in sym (step_end a.gaps.now a.points.now a.self c.before.before.before.if1.true c.before.before.if2.false c.if3.false)
@@ -45,7 +45,7 @@ add-d c = search rules
 -- the gap that the call found
 found : (c : tie.After-known-told) →
     let a = c.before.before.before.before.before.before.before.before.before.args in
-    gapAt 4 a.gaps.now a.self.at ≡ Gap c.before.g.given.0.0 c.before.g.given.0.1.0
+    gap_at 4 a.gaps.now a.self.at ≡ Gap c.before.g.given.0.0 c.before.g.given.0.1.0
 found c = cc
 
 add-d-2 : tie.Need-overflow-add-d-2
@@ -83,11 +83,11 @@ returns-6 c =
 returns-7 : tie.Need-returns-7
 returns-7 c =
     let a = c.before.before.before.before.before.before.before.before.before.args in
-    let f : gapAt 4 a.gaps.now a.self.at ≡ NoGap c.before.fault.given.0.0 = cc in
+    let f : gap_at 4 a.gaps.now a.self.at ≡ NoGap c.before.fault.given.0.0 = cc in
     sym (step-not a.gaps.now a.points.now a.self c.before.before.before.before.before.if1.false c.before.before.before.before.if4.false c.before.fault.given.0.0 f)
 
-pub next-spec : {M : Type 1} → statement M
-next-spec =
+pub next_spec : {M : Type 1} → statement M
+next_spec =
     tie.close
     (tie.spec
     returns

@@ -1,7 +1,7 @@
 -- `Head::next` meets its contract. Assumes nothing.
 use borrow.Author.Rules.{rules}
 use borrow.Author.Tests.{lt-ltb, le-ltb}
-use Rattle.scan.specs.Heads.{nextHead}
+use Rattle.scan.specs.Heads.{next_head}
 use Rattle.scan.proofs.head.Head.next.Statement.{statement}
 use Rattle.scan.proofs.head.Head.next.Tie as tie
 
@@ -21,14 +21,14 @@ add-t15 : tie.Need-overflow-add-t15
 add-t15 c = search rules
 
 returns : tie.Need-returns
-unfolding nextHead
+unfolding next_head
 returns c = rw (lt-ltb _ _ c.before.before.if1.true)
 
 returns-2 : tie.Need-returns-2
-unfolding nextHead
+unfolding next_head
 returns-2 c = rw (le-ltb _ _ c.if1.false)
 
-pub next-spec : {M : Type 1} → statement M
-next-spec =
+pub next_spec : {M : Type 1} → statement M
+next_spec =
     tie.close
     (tie.spec mul-t7 element-copy-out-t10 mul-t11 element-copy-out-t14 add-t15 returns returns-2)

@@ -48,8 +48,8 @@ returns-2 c =
     let f = left-more a.s.now a.self c.before.before.be2.result c.before.before.before.if1.false c.before.before.before.before.before.requires c.before.before.be2.ensures in
     (f.0, f.1 ∙ sym (c.summary-in.ensures ∙ ap (λ (x : Bool). sum_of x (drop a.self.sum a.s.now)) c.before.is-strip.ensures), f.2)
 
-pub next-spec : {M : Type 1} → statement M
-next-spec =
+pub next_spec : {M : Type 1} → statement M
+next_spec =
     tie.close
     (tie.spec
     returns
