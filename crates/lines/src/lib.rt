@@ -1,4 +1,6 @@
 // What the search program prints: where the query ends in its input, and its lines.
+#![tactic(auto)]
+
 pub mod line;
 pub mod number;
 pub mod rows;

@@ -1,4 +1,5 @@
 // The words that all crates share: limits, a posting, an outcome, runs of numbers. No functions: the limits by name, and definitions and laws.
+#![tactic(auto)]
 
 // Sheet numbers are 1 to this.
 pub const MAX_DOCID: u32 = 16777215;

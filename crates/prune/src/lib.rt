@@ -1,4 +1,6 @@
 // Pruning: cuts, ceilings, and whether an interval is opened.
+#![tactic(auto)]
+
 pub mod ceiling;
 pub mod cut;
 pub mod open;

@@ -1,2 +1,4 @@
 // The pruned ranker.
+#![tactic(auto)]
+
 pub mod search;

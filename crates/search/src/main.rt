@@ -1,4 +1,6 @@
 // One search, whole: standard input is a query and then a shelf, of at most 65,536 bytes in all. Prints its lines.
+#![tactic(auto)]
+
 fn main() {
     programs::search::run();
 }

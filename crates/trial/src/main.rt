@@ -1,4 +1,6 @@
 // The trial: the entry points against a second ranker and a table of the postings as they were made. Prints what it counted; `differ` must be 0.
+#![tactic(auto)]
+
 mod asking;
 mod chance;
 mod comparing;
