@@ -10,7 +10,7 @@ use wire::gap::{GapRead, ScoreRead};
 // A reading place in a body: where the next gap number starts in the first run, where a strip's next score starts in the second, the docid
 // before the next posting (before the first: the first's own), the block's greatest docid, how many postings are left, whether the first is
 // still to come, and whether the body is a strip.
-#[derive(Drop)]
+#[derive(Clone, Copy)]
 pub struct Cursor {
     pub at: usize,
     pub points: usize,

@@ -10,7 +10,7 @@ use wire::field::FieldRead;
 
 // What is known of a block before its body is read: the four numbers of its summary; and whether its body is a strip (tag 04), which the
 // body's tag says.
-#[derive(Drop)]
+#[derive(Clone, Copy)]
 pub struct Summary {
     pub least: u32,
     pub greatest: u32,

@@ -1,6 +1,6 @@
 -- The order of hits, the ranking, and the keeper of the k best. Assumes nothing.
 use Rattle.std.specs.Prelude.{ℕ, ◌-◌, ◌≡◌, Bool, false, ◌&&◌, ◌||◌, cond, ltb, eqb, take, get_or}
-use mathlib.Core.List.{List, [], ◌∷◌, map, foldl}
+use mathlib.Core.List.{List, [], ◌∷◌, foldl}
 use Rattle.model.specs.Post.{Post, scores}
 use Rattle.model.specs.Runs.{All}
 

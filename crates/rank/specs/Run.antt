@@ -1,10 +1,9 @@
 -- The run over lists: the smallest docid, the sum at it, its postings dropped, and so on up to an interval's last docid. Assumes nothing.
-use Rattle.std.specs.Prelude.{ℕ, zero, suc, ◌+◌, ◌-◌, ◌*◌, ◌≤◌, ◌<◌, min, ◌≡◌, Bool, cond, List, [], ◌∷◌, map, length, take, drop, ltb, eqb}
+use Rattle.std.specs.Prelude.{ℕ, zero, suc, ◌+◌, ◌*◌, min, Bool, cond, List, [], ◌∷◌, map, length, ltb, eqb}
 use Rattle.model.specs.Limits.{max_docid}
-use Rattle.model.specs.Post.{Post, post, docs}
-use Rattle.model.specs.Runs.{All, Asc}
-use Rattle.rank.specs.Rank.{Hit, keeps, Ordered}
-use Rattle.rank.specs.Match.{Term, Rule, any_list, hits_of, within}
+use Rattle.model.specs.Post.{Post, post}
+use Rattle.rank.specs.Rank.{Hit}
+use Rattle.rank.specs.Match.{Term, Rule}
 
 -- past the last docid: where a list is at its end
 abbrev pub none : ℕ
