@@ -7,7 +7,7 @@ ghost use Rattle.scan.specs.Heads.{next_head, InBuffers, Skipped};
 pub const END: u32 = model::MAX_DOCID + 1;
 
 // The posting that a list stands at, the list's weight, the index of the next posting in the buffers and the index past the last.
-#[derive(Drop)]
+#[derive(Clone, Copy)]
 pub struct Head {
     pub doc: u32,
     pub score: u16,

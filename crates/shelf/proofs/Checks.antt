@@ -3,7 +3,7 @@ use Prim.Native.Nat.{ℕ}
 use mathlib.Core.Path.{◌≡◌, refl}
 use mathlib.Core.List.{List, [], ◌∷◌}
 use Rattle.model.specs.Outcome.{Outcome, refused, done, and_then}
-use Rattle.shelf.specs.Walk.{Listing, blocks_at, onto, lists}
+use Rattle.shelf.specs.Walk.{Listing, blocks_at, onto}
 use Rattle.shelf.specs.Cursor.{start, lists_at, listing_at}
 use Rattle.shelf.specs.Check.{bad_body, or_else, bad_lists, verdict, checked, judged}
 use Rattle.shelf.specs.declared.walk.Place.{Place}

@@ -10,7 +10,7 @@ use wire::field::FieldRead;
 // ---- one list
 
 // A list on the shelf: its term, its number of blocks, where it begins and the place past it.
-#[derive(Drop)]
+#[derive(Clone, Copy)]
 pub struct Place {
     pub term: u32,
     pub count: u8,

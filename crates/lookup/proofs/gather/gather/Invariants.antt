@@ -1,0 +1,14 @@
+-- `lookup::gather::gather` meets its contract. The invariant: the lists before t are gathered (`Gathering`). Assumes nothing.
+use Prim.Native.Nat.{◌-◌, ◌≤◌}
+use native.Mathlib.Omega.{arith}
+use mathlib.Core.Path.{◌≡◌}
+use borrow.Author.Rules.{rules}
+use Rattle.lookup.specs.Table.{runs}
+use Rattle.lookup.proofs.Tables.{Gathering, gathering_start, gathering_layable, gathering_turn, gathering_end}
+use Rattle.lookup.proofs.gather.gather.Given as goal
+
+abbrev pub invariant-loop-t : goal.invariant-loop-t
+invariant-loop-t l = (l.t ≤ l.n) × Gathering l.s l.ats l.sizes l.t l.all l.ends (runs l.los l.his l.tops l.counts l.bodies)
+
+abbrev pub decreases-loop-t : goal.decreases-loop-t
+decreases-loop-t l = l.n - l.t

@@ -1,0 +1,63 @@
+use Prim.Native.Nat.{◌+◌, ◌*◌, ◌≤◌}
+use mathlib.Core.Path.{◌≡◌, sym}
+use native.Mathlib.Omega.{arith}
+use lib.ListN.{length, take}
+use lib.Seq.{length-take-le}
+use borrow.Author.Rules.{rules}
+use Rattle.prune.proofs.Gathers.{list-few, list_asc, merge-few, merge-whole, none_added}
+use Rattle.prune.proofs.cut.add_list.Goals as goal
+
+pub returns-then-los-eq0 : goal.returns-then-los-eq0
+returns-then-los-eq0 c = none_added c.args.lim c.args.n c.args.los.now c.args.his.now c.args.run.now (omega arith) (omega (arith, c.requires.2))
+
+pub slice_bounds-merge_cuts-end-2 : goal.slice_bounds-merge_cuts-end-2
+slice_bounds-merge_cuts-end-2 c =
+    let a = c.args in
+    let q = c.requires in
+    sym (length-take-le a.n a.run.now (omega (arith, q.2)))
+
+pub slice_bounds-one-end : goal.slice_bounds-one-end
+slice_bounds-one-end c =
+    let a = c.args in
+    let q = c.requires in
+    let p = c.list_cuts-m in
+    let few : p.result ≤ 2 * length a.los.now = list-few a.lim a.los.now a.his.now _ p.new.out p.result p.ensures in
+    omega (arith, p.auto.out, q.4)
+
+pub slice_bounds-merge_cuts-end-3 : goal.slice_bounds-merge_cuts-end-3
+slice_bounds-merge_cuts-end-3 c =
+    let a = c.args in
+    let q = c.requires in
+    let p = c.list_cuts-m in
+    let few : p.result ≤ 2 * length a.los.now = list-few a.lim a.los.now a.his.now _ p.new.out p.result p.ensures in
+    sym (length-take-le p.result p.new.out (omega (arith, p.auto.out, q.4)))
+
+pub merge_cuts-r-requires : goal.merge_cuts-r-requires
+merge_cuts-r-requires c =
+    let a = c.args in
+    let q = c.requires in
+    let p = c.list_cuts-m in
+    let few : p.result ≤ 2 * length a.los.now = list-few a.lim a.los.now a.his.now _ p.new.out p.result p.ensures in
+    let l1 : length (take a.n a.run.now) ≡ a.n = length-take-le a.n a.run.now (omega (arith, q.2)) in
+    let l2 : length (take p.result p.new.out) ≡ p.result = length-take-le p.result p.new.out (omega (arith, p.auto.out, q.4)) in
+    (omega (arith, q.2, q.5), list_asc a.lim a.los.now a.his.now _ p.new.out p.result p.ensures)
+
+pub copy_run-requires : goal.copy_run-requires
+copy_run-requires c =
+    let a = c.args in
+    let q = c.requires in
+    let p = c.list_cuts-m in
+    let few : p.result ≤ 2 * length a.los.now = list-few a.lim a.los.now a.his.now _ p.new.out p.result p.ensures in
+    let m = c.merge_cuts-r in
+    let most : m.result ≤ a.n + 2 * length a.los.now = merge-few a.lim a.los.now a.his.now _ p.new.out p.result p.ensures a.n a.run.now _ m.new.out m.result q.3 m.ensures (omega (arith, q.2)) in
+    (omega (arith, m.auto.out, q.2, q.5), omega (arith, q.2))
+
+pub returns : goal.returns
+returns c =
+    let a = c.args in
+    let q = c.requires in
+    let p = c.list_cuts-m in
+    let few : p.result ≤ 2 * length a.los.now = list-few a.lim a.los.now a.his.now _ p.new.out p.result p.ensures in
+    let m = c.merge_cuts-r in
+    let t = c.copy_run in
+    merge-whole a.lim a.los.now a.his.now _ p.new.out p.result p.ensures a.n a.run.now _ m.new.out m.result q.3 m.ensures t.new.to t.result t.ensures
