@@ -14,8 +14,7 @@ use Rattle.model.specs.Limits.{per_block, max_terms, max_docid}
 use Rattle.model.specs.Post.{Post, post, postings, docs, scores}
 use Rattle.model.specs.Runs.{All}
 use Rattle.model.proofs.Lists.{split, map-length}
-use Rattle.wire.specs.Gap.{score}
-use Rattle.block.specs.Body.{posts, right_body, body_run, ReadsInto}
+use Rattle.block.specs.Body.{right_body, body_run, ReadsInto}
 use Rattle.block.specs.declared.summary.Summary.{Summary}
 use Rattle.block.proofs.Contents.{right-run}
 use Rattle.rank.specs.Match.{Term}

@@ -1,11 +1,9 @@
 -- `raise_all` meets its contract: what is raised and what is left to raise, and a place that no interval to come lies before. Assumes nothing.
-use Prim.Native.Nat.{◌*◌, ◌-◌, ◌≤◌, ◌<◌}
-use native.Mathlib.Omega.{arith}
-use native.Mathlib.Nat.{mul-le-mul}
+use Prim.Native.Nat.{◌-◌, ◌≤◌, ◌<◌}
 use lib.ListN.{length, take, get_or}
 use Rattle.model.specs.Runs.{All}
 use Rattle.prune.specs.Gather.{blocks_of}
-use Rattle.prune.proofs.Books.{Raising, raising_none, raising_more, raising_done, unraised, below_next}
+use Rattle.prune.proofs.Books.{Raising}
 use Rattle.prune.proofs.ceiling.raise_all.Given as goal
 
 abbrev pub invariant-loop-k : goal.invariant-loop-k

@@ -1,8 +1,5 @@
 -- `reach` meets its contract: no block before the place holds the docid. Assumes nothing.
-use Prim.Native.Nat.{◌-◌, ◌≤◌, ◌<◌}
 use native.Mathlib.Omega.{arith}
-use lib.ListN.{length, take}
-use Rattle.model.specs.Runs.{All}
 use Rattle.prune.proofs.Books.{below_more}
 use Rattle.prune.proofs.ceiling.reach.Goals as goal
 

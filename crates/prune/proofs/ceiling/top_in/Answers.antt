@@ -2,7 +2,6 @@
 use mathlib.Core.Path.{◌∙◌}
 use native.Mathlib.Omega.{arith}
 use Rattle.prune.proofs.Books.{reached-past, reached-gap, reached-met}
-use borrow.Author.Rules.{rules}
 use Rattle.prune.proofs.ceiling.top_in.Goals as goal
 
 pub returns-then-los-j : goal.returns-then-los-j

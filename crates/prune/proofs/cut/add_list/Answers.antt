@@ -3,7 +3,6 @@ use mathlib.Core.Path.{◌≡◌, sym}
 use native.Mathlib.Omega.{arith}
 use lib.ListN.{length, take}
 use lib.Seq.{length-take-le}
-use borrow.Author.Rules.{rules}
 use Rattle.prune.proofs.Gathers.{list-few, list_asc, merge-few, merge-whole, none_added}
 use Rattle.prune.proofs.cut.add_list.Goals as goal
 

@@ -1,7 +1,5 @@
-use Prim.Native.Nat.{◌-◌}
 use native.Mathlib.Omega.{arith}
-use lib.ListN.{length}
-use Rattle.prune.proofs.Wholes.{Walking, walking_none, walking_more, walking_done, walking_asks, next_fine}
+use Rattle.prune.proofs.Wholes.{walking_none, walking_more, walking_done, walking_asks, next_fine}
 use Rattle.prune.proofs.cut.all_cuts.Goals as goal
 
 pub loop-t-init : goal.loop-t-init

@@ -1,7 +1,6 @@
 use Prim.Native.Nat.{◌-◌}
-use native.Mathlib.Omega.{arith}
 use lib.ListN.{length}
-use Rattle.prune.proofs.Wholes.{Walking, walking_none, walking_more, walking_done, walking_asks, next_fine}
+use Rattle.prune.proofs.Wholes.{Walking}
 use Rattle.prune.proofs.cut.all_cuts.Given as goal
 
 abbrev pub invariant-loop-t : goal.invariant-loop-t

@@ -1,6 +1,5 @@
-use Prim.Native.Nat.{◌-◌}
 use native.Mathlib.Omega.{arith}
-use Rattle.prune.proofs.Gathers.{Copying, copying_none, copying_more, copying_done}
+use Rattle.prune.proofs.Gathers.{copying_none, copying_more, copying_done}
 use Rattle.prune.proofs.cut.copy_run.Goals as goal
 
 pub loop-k-init : goal.loop-k-init

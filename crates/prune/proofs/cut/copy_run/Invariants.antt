@@ -1,6 +1,5 @@
 use Prim.Native.Nat.{◌-◌}
-use native.Mathlib.Omega.{arith}
-use Rattle.prune.proofs.Gathers.{Copying, copying_none, copying_more, copying_done}
+use Rattle.prune.proofs.Gathers.{Copying}
 use Rattle.prune.proofs.cut.copy_run.Given as goal
 
 abbrev pub invariant-loop-k : goal.invariant-loop-k

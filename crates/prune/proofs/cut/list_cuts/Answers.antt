@@ -1,9 +1,9 @@
-use Prim.Native.Nat.{◌-◌, ◌<◌}
+use Prim.Native.Nat.{◌<◌}
 use mathlib.Core.List.{[]}
 use mathlib.Core.Path.{◌∙◌}
 use native.Mathlib.Omega.{arith}
 use lib.ListN.{length}
-use Rattle.prune.proofs.Gathers.{Gathering, gathering_none, gathering_more, gathering_done, gathering_most, first_asks, second_asks, second_most, after-fits}
+use Rattle.prune.proofs.Gathers.{gathering_none, gathering_more, gathering_done, gathering_most, first_asks, second_asks, second_most, after-fits}
 use Rattle.prune.proofs.cut.list_cuts.Goals as goal
 
 pub loop-k-init : goal.loop-k-init

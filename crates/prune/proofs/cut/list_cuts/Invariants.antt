@@ -1,9 +1,7 @@
-use Prim.Native.Nat.{◌-◌, ◌<◌}
+use Prim.Native.Nat.{◌-◌}
 use mathlib.Core.List.{[]}
-use mathlib.Core.Path.{◌∙◌}
-use native.Mathlib.Omega.{arith}
 use lib.ListN.{length}
-use Rattle.prune.proofs.Gathers.{Gathering, gathering_none, gathering_more, gathering_done, gathering_most, first_asks, second_asks, second_most, after-fits}
+use Rattle.prune.proofs.Gathers.{Gathering}
 use Rattle.prune.proofs.cut.list_cuts.Given as goal
 
 abbrev pub invariant-loop-k : goal.invariant-loop-k

@@ -1,10 +1,9 @@
-use Prim.Native.Nat.{◌+◌, ◌-◌, ◌<◌}
-use mathlib.Core.Logic.{⊎_elim}
+use Prim.Native.Nat.{◌+◌, ◌<◌}
 use native.Mathlib.Omega.{arith}
 use lib.ListN.{length}
-use borrow.Author.Tests.{ltb-true, ltb-false}
-use Rattle.prune.proofs.Loops.{Merging, merging_none, merging_more, merging_done}
-use Rattle.prune.proofs.cut.merge_cuts.Goals.{else-i-a, then-i-a}
+use borrow.Author.Tests.{ltb-false}
+use Rattle.prune.proofs.Loops.{merging_none, merging_more, merging_done}
+use Rattle.prune.proofs.cut.merge_cuts.Goals.{then-i-a, else-i-a+then-j-b}
 use Rattle.prune.proofs.cut.merge_cuts.Goals as goal
 
 pub loop-i-init : goal.loop-i-init
@@ -16,7 +15,7 @@ next_cut-s-requires c =
     let j = c.loop-i.j in
     let a = c.args.a.now in
     let b = c.args.b.now in
-    let k : i + j < length a + length b = (elim c.if-i-a.branch [ then-i-a w ↦ omega arith | else-i-a w ↦ omega (arith, ltb-true) ]) in
+    let k : i + j < length a + length b = elim c.if-i-a.branch [ then-i-a w ↦ omega arith | else-i-a+then-j-b w ↦ omega arith ] in
     (omega arith, omega arith, k, c.requires.1)
 
 pub loop-i-preserved : goal.loop-i-preserved

@@ -1,9 +1,6 @@
-use Prim.Native.Nat.{◌+◌, ◌-◌, ◌<◌}
-use mathlib.Core.Logic.{⊎_elim}
-use native.Mathlib.Omega.{arith}
+use Prim.Native.Nat.{◌+◌, ◌-◌}
 use lib.ListN.{length}
-use borrow.Author.Tests.{ltb-true, ltb-false}
-use Rattle.prune.proofs.Loops.{Merging, merging_none, merging_more, merging_done}
+use Rattle.prune.proofs.Loops.{Merging}
 use Rattle.prune.proofs.cut.merge_cuts.Given as goal
 
 abbrev pub invariant-loop-i : goal.invariant-loop-i

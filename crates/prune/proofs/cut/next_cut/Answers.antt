@@ -1,6 +1,5 @@
 use native.Mathlib.Omega.{arith}
 use Rattle.prune.proofs.Merges.{step-first, step_second, step_both, first-left, second_left}
-use borrow.Author.Rules.{rules}
 use Rattle.prune.proofs.cut.next_cut.Goals as goal
 
 pub returns-then-x-y : goal.returns-then-x-y

@@ -1,11 +1,9 @@
 use native.Mathlib.Omega.{arith}
 use Prim.Native.Nat.{◌<◌}
-use mathlib.Core.Logic.{⊎_elim}
 use Rattle.model.specs.Runs.{All}
 use lib.ListN.{take}
-use borrow.Author.Rules.{rules}
 use Rattle.prune.proofs.Pushes.{push_low, push_high, push_same, push_end, below_last, none_before}
-use Rattle.prune.proofs.cut.push_cut.Goals.{else-n-gt0, then-n-gt0}
+use Rattle.prune.proofs.cut.push_cut.Goals.{else-n-gt0, then-n-gt0+else-out-n}
 use Rattle.prune.proofs.cut.push_cut.Goals as goal
 
 pub returns-then-c-le1 : goal.returns-then-c-le1
@@ -31,5 +29,5 @@ returns c =
     let a = c.args in
     let q = c.requires in
     let all : All (λ y. y < a.c) (take a.n a.out.now) =
-    (elim c.if-n-gt0.branch [ then-n-gt0 w ↦ below_last a.n a.c a.out.now q.0 w.0.taken q.1 q.2 w.2.left | else-n-gt0 w ↦ none_before (λ y. y < a.c) a.n a.out.now w.left ]) in
+    (elim c.if-n-gt0.branch [ then-n-gt0+else-out-n w ↦ below_last a.n a.c a.out.now q.0 w.if-n-gt0.true q.1 q.2 w.if-out-n.false | else-n-gt0 w ↦ none_before (λ y. y < a.c) a.n a.out.now w.if-n-gt0.false ]) in
     push_end a.lim a.c a.n a.out.now q.0 (omega arith) (omega arith) all

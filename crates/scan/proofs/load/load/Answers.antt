@@ -1,5 +1,4 @@
 -- `load` meets its contract: the laws of `Loadings` say it of a body that is right and of one that is wrong. Assumes nothing.
-use borrow.Author.Rules.{rules}
 use Rattle.scan.proofs.Loadings.{load-right, load-wrong}
 use Rattle.scan.proofs.load.load.Goals as goal
 

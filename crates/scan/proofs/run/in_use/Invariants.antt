@@ -1,11 +1,6 @@
 -- `in_use` meets its contract. The invariant: the heads from n on are at their lists' ends. Assumes nothing.
-use Prim.Native.Nat.{◌≤◌, ◌-◌, ◌+◌}
-use mathlib.Core.Path.{◌≡◌}
-use native.Mathlib.Omega.{arith}
-use borrow.Author.Rules.{rules}
-use lib.ListN.{length, drop_of_length-le}
+use Prim.Native.Nat.{◌≤◌}
 use Rattle.scan.specs.Run.{Idle}
-use Rattle.scan.proofs.Heads.{idle-turn}
 use Rattle.scan.proofs.run.in_use.Given as goal
 
 abbrev pub invariant-loop-n : goal.invariant-loop-n

@@ -2,7 +2,6 @@
 use Rattle.rank.specs.Keep.{kept_of}
 use Rattle.scan.specs.Heads.{terms}
 use Rattle.rank.proofs.Hits.{interval-kept, interval-left}
-use borrow.Author.Rules.{rules}
 use Rattle.scan.proofs.run.interval.Goals as goal
 
 pub returns : goal.returns

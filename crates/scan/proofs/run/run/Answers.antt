@@ -1,33 +1,26 @@
 -- `run` meets its contract. The outer invariant: the kept rows, with the run over what the heads still have, give what they gave at the start.
 -- The measure is the number of postings left. The inner loops are the two passes over the heads. Assumes nothing.
-use Prim.Native.Nat.{◌≤◌, ◌<◌, ◌-◌, ◌+◌, ◌*◌, min}
+use Prim.Native.Nat.{◌≤◌, ◌<◌, ◌*◌}
 use mathlib.Core.Path.{◌≡◌, refl, sym, ap, ◌∙◌}
-use mathlib.Core.Logic.{⊎_elim}
-use mathlib.Core.List.{List, ◌++◌, map}
+use mathlib.Core.List.{List, map}
 use native.Mathlib.Omega.{arith}
 use native.Mathlib.Nat.{min-eq_right}
-use borrow.Author.Rules.{rules}
-use lib.ListN.{length, take, drop, get_or, set, length-map}
+use lib.ListN.{length, get_or, set}
 use Rattle.model.proofs.Lists.{map-here}
-use Rattle.rank.specs.Run.{none, size}
+use Rattle.rank.specs.Run.{none}
 use Rattle.rank.proofs.Keepings.{kept_on_lem}
-use Rattle.scan.specs.Heads.{blank, InBuffers, least, sum_at, step_if, terms}
-use Rattle.scan.specs.Run.{Idle}
+use Rattle.scan.specs.Heads.{blank, InBuffers, least, sum_at, step_if}
 use Rattle.scan.specs.declared.head.Head.{Head}
 use Rattle.scan.proofs.Heads.{least-top, least-turn, least-past, product, sum_past, step_past, idle-step, All_at, step-turn, step_stay, sum-here, sum_stay}
-use Rattle.scan.proofs.Turns.{Running, running_none, running_turn, fewer-left, run-ended}
+use Rattle.scan.proofs.Turns.{running_none, running_turn, fewer-left, run-ended}
 use Rattle.scan.proofs.run.run.Goals.{else-e-d, else-h-d, then-e-d, then-h-d}
 use Rattle.scan.proofs.run.run.Goals as goal
-
-array-copy-out-h-2 :
-    tie.Need-array-copy-out-h-2
-array-copy-out-h-2 c = search rules
 
 pub loop-h-init : goal.loop-h-init
 loop-h-init c = (
   running_none _ _ _ _ _ _ _ _
-      (sym (length-map c.args.kept.docids (λ v. v)) ∙ c.well_formed.1.1.1.1.1.0.1.1.0.1.0.1)
-      (sym (length-map c.args.kept.scores (λ v. v)) ∙ c.well_formed.1.1.1.1.1.0.1.1.1.0.1.0.1)
+      (c.well_formed.1.1.1.1.1.0.1.1.0.1.0.1)
+      (c.well_formed.1.1.1.1.1.0.1.1.1.0.1.0.1)
       c.well_formed.1.1.0.1.0.1 c.requires.room c.requires.order c.requires.inside c.requires.parts,
   c.in_use-m.ensures.1,
 )
@@ -80,20 +73,20 @@ loop-j-preserved c =
     let hs = c.loop-h.hs in
     let l : j < length hs = omega (arith, c.loop-h.invariant.0.long) in
     let inv = c.loop-j.invariant in
-    (elim c.if-h-d.branch [
+    elim c.if-h-d.branch [
       | then-h-d w ↦ (
         omega arith,
-        omega (arith, w.5, product (get_or c.loop-j.hs j blank).weight (get_or c.loop-j.hs j blank).score (omega (arith, w.2.given)) (omega (arith, w.2.given))),
-        w.4 ∙ ap {B = List Head} (λ r. set c.loop-j.hs j r) w.3.ensures ∙ step-turn ds ss d hs c.loop-j.hs j l inv.2 w.0.taken,
-        sum-here ds ss d hs c.loop-j.hs j l inv.2 c.loop-j.s c.if-h-d.s inv.3 w.0.taken w.5,
+        omega (arith, w.s-is, product (get_or c.loop-j.hs j blank).weight (get_or c.loop-j.hs j blank).score (omega arith) (omega arith)),
+        w.hs-is ∙ ap {B = List Head} (λ r. set c.loop-j.hs j r) w.next.ensures ∙ step-turn ds ss d hs c.loop-j.hs j l inv.2 w.if-h-d.true,
+        sum-here ds ss d hs c.loop-j.hs j l inv.2 c.loop-j.s c.if-h-d.s inv.3 w.if-h-d.true w.s-is,
       )
       | else-h-d w ↦ (
         omega arith,
-        omega (arith, w.2),
-        w.1 ∙ step_stay ds ss d hs c.loop-j.hs j l inv.2 w.0.left,
-        rw w.2 (sum_stay ds ss d hs c.loop-j.hs j l inv.2 c.loop-j.s inv.3 w.0.left),
+        omega (arith, w.s-is),
+        w.hs-is ∙ step_stay ds ss d hs c.loop-j.hs j l inv.2 w.if-h-d.false,
+        rw w.s-is (sum_stay ds ss d hs c.loop-j.hs j l inv.2 c.loop-j.s inv.3 w.if-h-d.false),
       )
-    ])
+    ]
 
 pub offer_in-n-requires : goal.offer_in-n-requires
 offer_in-n-requires c =

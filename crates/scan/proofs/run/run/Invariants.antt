@@ -1,21 +1,13 @@
 -- `run` meets its contract. The outer invariant: the kept rows, with the run over what the heads still have, give what they gave at the start.
 -- The measure is the number of postings left. The inner loops are the two passes over the heads. Assumes nothing.
-use Prim.Native.Nat.{◌≤◌, ◌<◌, ◌-◌, ◌+◌, ◌*◌, min}
-use mathlib.Core.Path.{◌≡◌, refl, sym, ap, ◌∙◌}
-use mathlib.Core.Logic.{⊎_elim}
-use mathlib.Core.List.{List, ◌++◌, map}
-use native.Mathlib.Omega.{arith}
-use native.Mathlib.Nat.{min-eq_right}
-use borrow.Author.Rules.{rules}
-use lib.ListN.{length, take, drop, get_or, set, length-map}
-use Rattle.model.proofs.Lists.{map-here}
+use Prim.Native.Nat.{◌≤◌, ◌-◌, ◌+◌, ◌*◌, min}
+use mathlib.Core.Path.{◌≡◌}
+use mathlib.Core.List.{◌++◌, map}
+use lib.ListN.{take, drop}
 use Rattle.rank.specs.Run.{none, size}
-use Rattle.rank.proofs.Keepings.{kept_on_lem}
-use Rattle.scan.specs.Heads.{blank, InBuffers, least, sum_at, step_if, terms}
+use Rattle.scan.specs.Heads.{least, sum_at, step_if, terms}
 use Rattle.scan.specs.Run.{Idle}
-use Rattle.scan.specs.declared.head.Head.{Head}
-use Rattle.scan.proofs.Heads.{least-top, least-turn, least-past, product, sum_past, step_past, idle-step, All_at, step-turn, step_stay, sum-here, sum_stay}
-use Rattle.scan.proofs.Turns.{Running, running_none, running_turn, fewer-left, run-ended}
+use Rattle.scan.proofs.Turns.{Running}
 use Rattle.scan.proofs.run.run.Given as goal
 
 -- the first pass

@@ -1,5 +1,4 @@
 -- `Head::next` meets its contract. Assumes nothing.
-use borrow.Author.Rules.{rules}
 use borrow.Author.Tests.{lt-ltb, le-ltb}
 use Rattle.scan.specs.Heads.{next_head}
 use Rattle.scan.proofs.head.Head.next.Goals as goal

@@ -1,10 +1,6 @@
 -- `Head::skipped` meets its contract: past each posting below `first`, what is left from `first` on is the same. Assumes nothing.
-use Prim.Native.Nat.{ℕ}
-use mathlib.Core.Path.{◌≡◌, refl, sym, ◌∙◌}
+use mathlib.Core.Path.{refl, sym, ◌∙◌}
 use native.Mathlib.Omega.{arith}
-use lib.ListN.{length}
-use Rattle.rank.specs.Run.{skip_term}
-use Rattle.scan.specs.Heads.{InBuffers, OwnPart, term_of, head_posts, skip_head}
 use Rattle.scan.proofs.Terms.{next-stays, next-own, skip_turn, skip_less, skip_stop, head-turn, head-stop}
 use Rattle.scan.proofs.head.Head.skipped.Goals as goal
 
