@@ -1,6 +1,6 @@
 -- The blocks of the lists that were found, list after list in the query's order, side by side in five runs. Assumes nothing.
 use Rattle.std.specs.Prelude.{ℕ, zero, suc, ◌+◌, ◌≤◌, ◌<◌, ◌≡◌, List, [], ◌∷◌, ◌++◌, map, length, get_or, replicate}
-use Rattle.model.specs.Limits.{per_list, max_shelf, max_terms}
+use Rattle.model.specs.Limits.{max_shelf, max_terms}
 use Rattle.model.specs.Runs.{Stored, Holds}
 use Rattle.shelf.specs.Walk.{Block, blocks_at}
 use Rattle.shelf.specs.Answers.{ReadyAt}

@@ -1,8 +1,6 @@
 -- `lookup::find::find_list` meets its contract. The invariant: the answer for all is the answer for the lists that are left, after what is known.
 -- Assumes nothing.
 use mathlib.Core.Path.{◌≡◌, sym, ap, ◌∙◌}
-use borrow.Author.Rules.{rules}
-use Rattle.lookup.specs.Find.{found, shown_of}
 use Rattle.shelf.specs.Cursor.{walk_step, lists_at}
 use Rattle.shelf.specs.declared.walk.Walk.{Walk}
 use Rattle.lookup.specs.declared.find.Shown.TheVariants as shown

@@ -1,14 +1,9 @@
 -- `lookup::find::find_list` meets its contract. The invariant: the answer for all is the answer for the lists that are left, after what is known.
 -- Assumes nothing.
-use mathlib.Core.Path.{◌≡◌, sym, ap, ◌∙◌}
-use borrow.Author.Rules.{rules}
+use mathlib.Core.Path.{◌≡◌}
 use Rattle.lookup.specs.Find.{found, shown_of}
-use Rattle.shelf.specs.Cursor.{walk_step, lists_at}
-use Rattle.shelf.specs.declared.walk.Walk.{Walk}
-use Rattle.lookup.specs.declared.find.Shown.TheVariants as shown
-use Rattle.shelf.specs.declared.walk.WalkStep.TheVariants as step
-use Rattle.shelf.proofs.Steps.{Turn, turn, walk_end, walk-fault}
-use Rattle.lookup.proofs.Finds.{shown_from, shown-turn, found-start}
+use Rattle.shelf.specs.Cursor.{lists_at}
+use Rattle.lookup.proofs.Finds.{shown_from}
 use Rattle.lookup.proofs.find.find_list.Given as goal
 
 abbrev pub invariant-loop-p : goal.invariant-loop-p

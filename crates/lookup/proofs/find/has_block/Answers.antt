@@ -1,5 +1,4 @@
 -- `lookup::find::has_block` meets its contract: each return is a law of `Shows` at the tests that led there. Assumes nothing.
-use borrow.Author.Rules.{rules}
 use Rattle.lookup.proofs.Shows.{has-not, has_short, has_room}
 use Rattle.lookup.proofs.find.has_block.Goals as goal
 

@@ -1,7 +1,6 @@
 -- `lookup::find::here_or` meets its contract. Assumes nothing.
 use mathlib.Core.Path.{◌≡◌}
 use borrow.Author.Tests.{eq-eqb, ne_eqb}
-use borrow.Author.Rules.{rules}
 use Rattle.lookup.specs.declared.find.Shown.TheVariants as shown
 use Rattle.lookup.proofs.find.here_or.Goals as goal
 

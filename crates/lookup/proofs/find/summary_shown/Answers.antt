@@ -1,10 +1,8 @@
 -- `lookup::find::summary_shown` meets its contract: each return is a law of `Shows`. Assumes nothing.
-use borrow.Author.Rules.{rules}
 use Prim.Native.Nat.{◌<◌, ◌≤◌}
 use mathlib.Core.Path.{◌≡◌, sym, ◌∙◌}
 use mathlib.Core.Bool.{true, false}
 use native.Mathlib.Omega.{arith}
-use borrow.Author.Tests.{not-true, not-false}
 use lib.ListN.{length}
 use Rattle.lookup.specs.Show.{bodies_from, has_block}
 use Rattle.lookup.specs.declared.find.Shown.TheVariants as shown

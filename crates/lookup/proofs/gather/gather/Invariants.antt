@@ -1,10 +1,7 @@
 -- `lookup::gather::gather` meets its contract. The invariant: the lists before t are gathered (`Gathering`). Assumes nothing.
 use Prim.Native.Nat.{◌-◌, ◌≤◌}
-use native.Mathlib.Omega.{arith}
-use mathlib.Core.Path.{◌≡◌}
-use borrow.Author.Rules.{rules}
 use Rattle.lookup.specs.Table.{runs}
-use Rattle.lookup.proofs.Tables.{Gathering, gathering_start, gathering_layable, gathering_turn, gathering_end}
+use Rattle.lookup.proofs.Tables.{Gathering}
 use Rattle.lookup.proofs.gather.gather.Given as goal
 
 abbrev pub invariant-loop-t : goal.invariant-loop-t

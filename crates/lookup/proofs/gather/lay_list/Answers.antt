@@ -2,12 +2,11 @@
 use Prim.Native.Nat.{◌<◌}
 use native.Mathlib.Omega.{arith}
 use mathlib.Core.Path.{◌≡◌}
-use borrow.Author.Rules.{rules}
 use Rattle.shelf.specs.Walk.{blocks_at}
 use Rattle.shelf.specs.Blocks.{Steps}
 use Rattle.lookup.specs.Table.{max_blocks, runs}
 use Rattle.shelf.specs.declared.blocks.BlockStep.TheVariants.{Block, Last}
-use Rattle.lookup.proofs.Tables.{Laying, laying_start, laying_room, laying_turn, laying_end, lays_none}
+use Rattle.lookup.proofs.Tables.{laying_start, laying_room, laying_turn, laying_end, lays_none}
 use Rattle.lookup.proofs.gather.lay_list.Goals as goal
 
 pub returns-then-count-eq0 : goal.returns-then-count-eq0

@@ -1,13 +1,7 @@
 -- `lookup::gather::lay_list` meets its contract. The invariant: what is laid and what is left are the list's blocks (`Laying`). Assumes nothing.
-use Prim.Native.Nat.{◌<◌}
-use native.Mathlib.Omega.{arith}
-use mathlib.Core.Path.{◌≡◌}
-use borrow.Author.Rules.{rules}
 use Rattle.shelf.specs.Walk.{blocks_at}
-use Rattle.shelf.specs.Blocks.{Steps}
-use Rattle.lookup.specs.Table.{max_blocks, runs}
-use Rattle.shelf.specs.declared.blocks.BlockStep.TheVariants.{Block, Last}
-use Rattle.lookup.proofs.Tables.{Laying, laying_start, laying_room, laying_turn, laying_end, lays_none}
+use Rattle.lookup.specs.Table.{runs}
+use Rattle.lookup.proofs.Tables.{Laying}
 use Rattle.lookup.proofs.gather.lay_list.Given as goal
 
 abbrev pub invariant-loop-m : goal.invariant-loop-m

@@ -1,11 +1,8 @@
 -- `lookup::gather::note` meets its contract. The invariant: the list is noted for the terms before i. Assumes nothing.
-use Prim.Native.Nat.{◌-◌, ◌≤◌, ◌<◌}
+use Prim.Native.Nat.{◌<◌}
 use native.Mathlib.Omega.{arith}
 use mathlib.Core.Path.{◌≡◌, refl, ◌∙◌}
-use mathlib.Core.Logic.{⊎_elim}
-use lib.ListN.{length, take}
-use borrow.Author.Rules.{rules}
-use Rattle.lookup.specs.Gather.{noted}
+use lib.ListN.{length}
 use Rattle.lookup.proofs.Gathers.{noted_here, noted_other}
 use Rattle.lookup.proofs.gather.note.Goals.{else-terms-i, then-terms-i}
 use Rattle.lookup.proofs.gather.note.Goals as goal
@@ -21,13 +18,13 @@ loop-i-preserved c =
     (elim c.if-terms-i.branch [
       | then-terms-i w ↦ (
         omega arith,
-        w.1 ∙ rw l.invariant.1 (noted_here a.list.term a.list.at l.i a.terms.now a.ats.now h w.0.taken),
-        w.2 ∙ rw l.invariant.2 (noted_here a.list.term a.list.count l.i a.terms.now a.counts.now h w.0.taken),
+        w.ats-is ∙ rw l.invariant.1 (noted_here a.list.term a.list.at l.i a.terms.now a.ats.now h w.if-terms-i.true),
+        w.counts-is ∙ rw l.invariant.2 (noted_here a.list.term a.list.count l.i a.terms.now a.counts.now h w.if-terms-i.true),
       )
       | else-terms-i w ↦ (
         omega arith,
-        w.1 ∙ l.invariant.1 ∙ noted_other a.list.term a.list.at l.i a.terms.now a.ats.now h w.0.left,
-        w.2 ∙ l.invariant.2 ∙ noted_other a.list.term a.list.count l.i a.terms.now a.counts.now h w.0.left,
+        w.ats-is ∙ l.invariant.1 ∙ noted_other a.list.term a.list.at l.i a.terms.now a.ats.now h w.if-terms-i.false,
+        w.counts-is ∙ l.invariant.2 ∙ noted_other a.list.term a.list.count l.i a.terms.now a.counts.now h w.if-terms-i.false,
       )
     ])
 

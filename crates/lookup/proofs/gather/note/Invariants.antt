@@ -1,12 +1,8 @@
 -- `lookup::gather::note` meets its contract. The invariant: the list is noted for the terms before i. Assumes nothing.
-use Prim.Native.Nat.{◌-◌, ◌≤◌, ◌<◌}
-use native.Mathlib.Omega.{arith}
-use mathlib.Core.Path.{◌≡◌, refl, ◌∙◌}
-use mathlib.Core.Logic.{⊎_elim}
-use lib.ListN.{length, take}
-use borrow.Author.Rules.{rules}
+use Prim.Native.Nat.{◌-◌, ◌≤◌}
+use mathlib.Core.Path.{◌≡◌}
+use lib.ListN.{take}
 use Rattle.lookup.specs.Gather.{noted}
-use Rattle.lookup.proofs.Gathers.{noted_here, noted_other}
 use Rattle.lookup.proofs.gather.note.Given as goal
 
 abbrev pub invariant-loop-i : goal.invariant-loop-i
