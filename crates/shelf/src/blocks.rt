@@ -6,7 +6,7 @@ use crate::walk::Place;
 use block::summary::Summary;
 
 // Where the next block's summary and its body's tag stand, and how many blocks are left.
-#[derive(Drop)]
+#[derive(Clone, Copy)]
 pub struct Reading {
     pub sum: usize,
     pub body: usize,

@@ -134,7 +134,7 @@ pub fn list_at(s: &[u8], at: usize, floor: u64) -> ListRead
 // ---- all lists
 
 // A place in the walk: where the next list begins, the least term it may have, and how many lists may still come.
-#[derive(Drop)]
+#[derive(Clone, Copy)]
 pub struct Walk {
     pub at: usize,
     pub floor: u64,
