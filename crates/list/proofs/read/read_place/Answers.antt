@@ -1,0 +1,54 @@
+-- `list::read::read_place` meets its contract: each answer is a law of `Given` at the tests that led there. Assumes nothing.
+use native.Mathlib.Omega.{arith}
+use mathlib.Core.Path.{◌≡◌, sym}
+use lib.ListN.{length}
+use Rattle.shelf.specs.Walk.{blocks_at}
+use Rattle.shelf.specs.Check.{bad_body}
+use Rattle.shelf.specs.declared.check.BadRead.TheVariants.{BadAt, NoBad}
+use Rattle.list.specs.Read.{count_of, read_blocks}
+use Rattle.list.specs.Fill.{Fillable}
+use Rattle.list.proofs.Given.{reads_refused, read_bad, read_short, reads_filled}
+use Rattle.list.proofs.read.read_place.Goals as goal
+
+pub returns-then-docids-n : goal.returns-then-docids-n
+returns-then-docids-n c =
+    let a = c.args in
+    let bs = blocks_at a.s.now a.list.at a.list.count in
+    let right : bad_body bs ≡ NoBad = cc in
+    let n : count_of bs ≡ c.count-n.result = sym c.count-n.ensures in
+    reads_refused (read_blocks bs (length a.docids.now) (length a.scores.now)) 9 0 a.docids.now a.scores.now
+    (read_short bs (length a.docids.now) (length a.scores.now) right (omega arith))
+
+pub returns-then-scores-n : goal.returns-then-scores-n
+returns-then-scores-n c =
+    let a = c.args in
+    let bs = blocks_at a.s.now a.list.at a.list.count in
+    let right : bad_body bs ≡ NoBad = cc in
+    let n : count_of bs ≡ c.count-n.result = sym c.count-n.ensures in
+    reads_refused (read_blocks bs (length a.docids.now) (length a.scores.now)) 9 0 a.docids.now a.scores.now
+    (read_short bs (length a.docids.now) (length a.scores.now) right (omega arith))
+
+pub fill-requires : goal.fill-requires
+fill-requires c =
+    let a = c.args in
+    let bs = blocks_at a.s.now a.list.at a.list.count in
+    let right : bad_body bs ≡ NoBad = cc in
+    let n : count_of bs ≡ c.count-n.result = sym c.count-n.ensures in
+    record { ready = c.requires; right = right; roomy = omega arith; wide = omega arith }
+
+pub returns-in-BadAt : goal.returns-in-BadAt
+returns-in-BadAt c =
+    let a = c.args in
+    let bs = blocks_at a.s.now a.list.at a.list.count in
+    let wrong : bad_body bs ≡ BadAt c.in-BadAt.o = cc in
+    reads_refused (read_blocks bs (length a.docids.now) (length a.scores.now)) 8 c.in-BadAt.o a.docids.now a.scores.now
+    (read_bad bs (length a.docids.now) (length a.scores.now) c.in-BadAt.o wrong)
+
+pub returns-else-scores-n : goal.returns-else-scores-n
+returns-else-scores-n c =
+    let a = c.args in
+    let bs = blocks_at a.s.now a.list.at a.list.count in
+    let right : bad_body bs ≡ NoBad = cc in
+    let n : count_of bs ≡ c.count-n.result = sym c.count-n.ensures in
+    let room : Fillable a.s.now a.list (length a.docids.now) (length a.scores.now) = record { ready = c.requires; right = right; roomy = omega arith; wide = omega arith } in
+    reads_filled a.s.now a.list a.docids.now a.scores.now c.fill.new.docids c.fill.new.scores c.fill.result room c.fill.ensures
