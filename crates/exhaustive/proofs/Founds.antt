@@ -161,10 +161,10 @@ blank-faults zero [] = refl
 blank-faults (suc m) [] = blank-faults m []
 blank-faults m (l ∷ ls) = rw (blank-faults m ls)
 
-blank-held : (m : ℕ) (xs : List ℕ) (ls : List Listing) → held_from xs (terms_of (ls ++ blanks m)) ≡ held_from xs (terms_of ls)
-blank-held zero xs [] = refl
-blank-held (suc m) xs [] = blank-held m xs []
-blank-held m xs (l ∷ ls) = blank-held m _ ls
+blank-held : (m : ℕ) (ls : List Listing) (xs : List ℕ) → held_from xs (terms_of (ls ++ blanks m)) ≡ held_from xs (terms_of ls)
+blank-held zero [] xs = refl
+blank-held (suc m) [] xs = blank-held m [] xs
+blank-held m (l ∷ ls) xs = blank-held m ls _
 
 blank-some : (d m : ℕ) (ls : List Listing) → some (holds (terms_of (ls ++ blanks m)) d) ≡ some (holds (terms_of ls) d)
 blank-some d zero [] = refl
@@ -190,7 +190,7 @@ blank-hits m ls =
     let B = terms_of ls in
     map_same (hit_at A) (hit_at B) (matches any_list A) (λ d. rw (blank-score d m ls))
     ∙ ap (map (hit_at B))
-    (filter_same (λ d. any_list (holds A d) d) (λ d. any_list (holds B d) d) (held_from [] A) (λ d. blank-some d m ls) ∙ ap (filter (λ d. any_list (holds B d) d)) (blank-held m [] ls))
+    (filter_same (λ d. any_list (holds A d) d) (λ d. any_list (holds B d) d) (held_from [] A) (λ d. blank-some d m ls) ∙ ap (filter (λ d. any_list (holds B d) d)) (blank-held m ls []))
 
 pub blank-ranked : (k m : ℕ) (ls : List Listing) → exhaustive any_list k (ls ++ blanks m) ≡ exhaustive any_list k ls
 blank-ranked k m ls = rw (blank-faults m ls, blank-hits m ls)

@@ -7,7 +7,7 @@ use scan::load::Loaded;
 use shelf::blocks::{BlockStep, Reading};
 
 // What a list still has on the shelf, and the greatest docid of the block that stands in the buffers.
-#[derive(Drop)]
+#[derive(Clone, Copy)]
 pub struct Left {
     pub blocks: Reading,
     pub top: u32,

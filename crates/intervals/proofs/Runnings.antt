@@ -16,7 +16,7 @@ use Rattle.model.specs.Runs.{All, Asc}
 use Rattle.model.specs.Outcome.{done}
 use Rattle.model.proofs.Lists.{split, All_map, All_append, or_true, and-true}
 use Rattle.rank.specs.Rank.{Hit, kth, keeps, Ordered}
-use Rattle.rank.specs.Match.{any_list, within}
+use Rattle.rank.specs.Match.{any_list}
 use Rattle.rank.specs.Keep.{kept_of, no_hits, keeper}
 use Rattle.rank.specs.declared.keep.Kept.{Kept}
 use Rattle.rank.proofs.Keepings.{kept_more}
