@@ -1,5 +1,5 @@
 -- What an edit does to the bytes of a shelf, or why it is refused: for every shelf and every edit. Assumes nothing.
-use Rattle.std.specs.Prelude.{ℕ, ◌-◌, List, [], ◌∷◌, ◌++◌, map, Bool, true, false, cond, ◌&&◌, ◌||◌, leb, ltb, eqb, length, take, drop}
+use Rattle.std.specs.Prelude.{ℕ, ◌-◌, List, [], ◌∷◌, ◌++◌, Bool, true, false, cond, ◌&&◌, ◌||◌, leb, ltb, eqb, length, take, drop}
 use Rattle.model.specs.Limits.{max_docid, max_score, max_postings, max_lists, max_shelf}
 use Rattle.model.specs.Outcome.{Outcome, refused, done, and_then}
 use Rattle.model.specs.Post.{Post, post, docs}

@@ -6,7 +6,6 @@ use Rattle.model.specs.Post.{Post, postings, docs, scores}
 use Rattle.model.specs.Runs.{Holds}
 use Rattle.shelf.specs.Walk.{Listing, posts_of, strip_of, blocks_at}
 use Rattle.shelf.specs.Check.{checked, judged}
-use Rattle.shelf.specs.declared.walk.Place.{Place}
 use Rattle.list.specs.Write.{list_bytes, Writable}
 use Rattle.list.specs.Fill.{Fillable}
 use Rattle.change.specs.declared.seat.Seat.{Seat}

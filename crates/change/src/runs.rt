@@ -23,7 +23,7 @@ pub fn without(docs: &mut [u32], scores: &mut [u16], n: usize, d: u32) -> usize
 }
 
 // A posting that is carried along.
-#[derive(Drop)]
+#[derive(Clone, Copy)]
 pub struct Posting {
     pub doc: u32,
     pub score: u16,

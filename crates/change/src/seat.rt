@@ -8,7 +8,7 @@ ghost use Rattle.change.specs.Seat.{Sounds, seat_of, Fills, Held, strip_by, Stoo
 use shelf::walk::{ListRead, Place};
 
 // The list itself; or the place where it would begin.
-#[derive(Drop)]
+#[derive(Clone, Copy)]
 pub enum Seat {
     Taken(Place),
     Free(usize),

@@ -4,7 +4,6 @@ use Rattle.lines.proofs.Lines.{opened-line, skipped-line}
 use native.Mathlib.Omega.{arith}
 use mathlib.Core.Path.{ap}
 use lib.ListN.{length}
-use borrow.Author.Rules.{rules}
 use Rattle.lines.proofs.line.put_interval.Goals as goal
 
 pub put_line-requires : goal.put_line-requires

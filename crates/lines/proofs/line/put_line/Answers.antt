@@ -2,7 +2,6 @@
 use Rattle.model.proofs.Storing.{stored-append, stored_as, stored-length}
 use Rattle.lines.proofs.Lines.{line-parts, line-size}
 use native.Mathlib.Omega.{arith}
-use borrow.Author.Rules.{rules}
 use Rattle.lines.proofs.line.put_line.Goals as goal
 
 pub put_word-p-requires : goal.put_word-p-requires

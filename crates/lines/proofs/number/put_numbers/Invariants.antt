@@ -1,12 +1,8 @@
 -- `lines::number::put_numbers` meets its contract. The invariant: to store what is left of the numbers from here gives what is asked. Assumes nothing.
-use Rattle.model.proofs.Storing.{Rest, stored-append, stored-length, rest-start, rest-turn, rest-room, rest_end}
-use Rattle.lines.specs.Text.{codes, decimal, numbers}
-use Rattle.lines.proofs.Decimals.{numbers_more, numbers-none}
-use borrow.Author.Rules.{rules}
-use lib.ListN.{length, drop, get_or}
-use Prim.Native.Nat.{◌+◌, ◌-◌, ◌≤◌}
-use native.Mathlib.Omega.{arith}
-use mathlib.Core.List.{◌++◌}
+use Rattle.model.proofs.Storing.{Rest}
+use Rattle.lines.specs.Text.{numbers}
+use lib.ListN.{length, drop}
+use Prim.Native.Nat.{◌-◌, ◌≤◌}
 use Rattle.lines.proofs.number.put_numbers.Given as goal
 
 abbrev pub invariant-loop-i : goal.invariant-loop-i

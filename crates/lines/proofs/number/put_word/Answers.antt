@@ -1,9 +1,9 @@
 -- `lines::number::put_word` meets its contract. The invariant: to store what is left of the word from here gives what is asked. Assumes nothing.
-use Rattle.model.proofs.Storing.{Rest, rest-start, rest-turn, rest-room, rest_end}
+use Rattle.model.proofs.Storing.{rest-start, rest-turn, rest-room, rest_end}
 use Rattle.model.proofs.Lists.{rest_cons, rest-none}
 use borrow.Author.Rules.{rules}
 use lib.ListN.{length, drop, get_or}
-use Prim.Native.Nat.{◌+◌, ◌-◌, ◌≤◌}
+use Prim.Native.Nat.{◌+◌, ◌≤◌}
 use native.Mathlib.Omega.{arith}
 use mathlib.Core.List.{[], ◌∷◌}
 use mathlib.Core.Path.{refl}

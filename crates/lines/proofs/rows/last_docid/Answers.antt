@@ -4,7 +4,6 @@ use Rattle.lines.proofs.Printing.{last-next, last-limit, asc_at}
 use Prim.Native.Nat.{◌+◌}
 use native.Mathlib.Omega.{arith}
 use mathlib.Core.Path.{sym}
-use borrow.Author.Rules.{rules}
 use Rattle.lines.proofs.rows.last_docid.Goals as goal
 
 pub overflow_sub-result : goal.overflow_sub-result

@@ -1,12 +1,12 @@
 -- `lines::rows::put_hits` meets its contract. The invariant: to store the lines that are left from here gives what is asked. Assumes nothing.
 use mathlib.Core.List.{◌++◌}
 use Rattle.model.specs.Post.{post, postings}
-use Rattle.model.proofs.Storing.{Rest, rest-start, rest-turn, rest-room, rest_end}
+use Rattle.model.proofs.Storing.{rest-start, rest-turn, rest-room, rest_end}
 use Rattle.lines.specs.Text.{hit_line, hit_lines}
 use Rattle.lines.proofs.Printing.{hits_more, hits-none}
 use borrow.Author.Rules.{rules}
 use lib.ListN.{take, drop, get_or}
-use Prim.Native.Nat.{◌+◌, ◌-◌, ◌≤◌}
+use Prim.Native.Nat.{◌+◌}
 use native.Mathlib.Omega.{arith}
 use mathlib.Core.Path.{◌≡◌}
 use Rattle.lines.proofs.rows.put_hits.Goals as goal

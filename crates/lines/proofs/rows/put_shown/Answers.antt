@@ -5,23 +5,25 @@ use Rattle.lines.specs.Text.{Shown, shown}
 use Rattle.lines.proofs.Sizes.{text-size}
 use native.Mathlib.Omega.{arith}
 use lib.ListN.{take}
-use borrow.Author.Rules.{rules}
-use Rattle.lines.proofs.rows.put_shown.Goals.{Start}
 use Rattle.lines.proofs.rows.put_shown.Goals as goal
 
--- what is printed
-abbrev whole : Start → Shown
-whole c = let a = c.args in shown (take a.n (postings a.docids.now a.scores.now)) a.firsts.now a.ceilings.now a.marks.now a.opened a.all
-
 pub put_hits-p-requires : goal.put_hits-p-requires
-put_hits-p-requires c = let q = c.requires in (q.0, q.1, q.2, omega (arith, q.4, text-size (whole c.before.before.before.before.before)))
+put_hits-p-requires c =
+    let a = c.args in
+    let whole : Shown = shown (take a.n (postings a.docids.now a.scores.now)) a.firsts.now a.ceilings.now a.marks.now a.opened a.all in
+    let q = c.requires in (q.0, q.1, q.2, omega (arith, q.4, text-size whole))
 
 pub put_intervals-q-requires : goal.put_intervals-q-requires
-put_intervals-q-requires c = let q = c.requires in (q.3, omega (arith, q.4, text-size (whole c.before.before.before.before.before.before.before.before.before), stored-length c.put_hits-p.ensures, c.put_hits-p.ensures.past))
+put_intervals-q-requires c =
+    let a = c.args in
+    let whole : Shown = shown (take a.n (postings a.docids.now a.scores.now)) a.firsts.now a.ceilings.now a.marks.now a.opened a.all in
+    let q = c.requires in (q.3, omega (arith, q.4, text-size whole, stored-length c.put_hits-p.ensures, c.put_hits-p.ensures.past))
 
 pub put_blocks-requires : goal.put_blocks-requires
 put_blocks-requires c =
-    omega (arith, c.requires.4, text-size (whole c.before.before.before.before.before.before.before.before.before.before.before.before.before), stored-length c.put_hits-p.ensures, c.put_hits-p.ensures.past, stored-length c.put_intervals-q.ensures, c.put_intervals-q.ensures.past)
+    let a = c.args in
+    let whole : Shown = shown (take a.n (postings a.docids.now a.scores.now)) a.firsts.now a.ceilings.now a.marks.now a.opened a.all in
+    omega (arith, c.requires.4, text-size whole, stored-length c.put_hits-p.ensures, c.put_hits-p.ensures.past, stored-length c.put_intervals-q.ensures, c.put_intervals-q.ensures.past)
 
 pub returns : goal.returns
 returns c = stored-append c.put_hits-p.ensures (stored-append c.put_intervals-q.ensures c.put_blocks.ensures)

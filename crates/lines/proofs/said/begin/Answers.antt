@@ -1,6 +1,5 @@
 -- `lines::said::begin` meets its contract, test by test. Assumes nothing.
 use native.Mathlib.Omega.{arith}
-use borrow.Author.Rules.{rules}
 use Rattle.model.proofs.Storing.{stored-append, stored_as}
 use Rattle.lines.proofs.Beginnings.{small-output, small-error, room_enough, begun_silent, begun_answer, begun_unread, unread-parts}
 use Rattle.lines.proofs.said.begin.Goals as goal

@@ -1,6 +1,5 @@
 -- `lines::split::query_field` meets its contract: one tag, or else the other. Assumes nothing.
 use mathlib.Core.Path.{◌≡◌, sym, ◌∙◌}
-use borrow.Author.Rules.{rules}
 use Rattle.wire.specs.Field.{field_at}
 use Rattle.wire.specs.declared.field.FieldRead.TheVariants.{Whole, Missing}
 use Rattle.lines.proofs.Splits.{found-k, found-term}

@@ -2,9 +2,7 @@
 use Rattle.lines.specs.Split.{query_field_at}
 use Rattle.wire.specs.declared.field.FieldRead.TheVariants.{Whole, Missing}
 use Rattle.lines.proofs.Splits.{Passing, passing_start, passing_turn, passing_end}
-use borrow.Author.Rules.{rules}
-use lib.ListN.{length}
-use Prim.Native.Nat.{◌+◌, ◌-◌}
+use Prim.Native.Nat.{◌+◌}
 use native.Mathlib.Omega.{arith}
 use mathlib.Core.Path.{◌≡◌, sym}
 use Rattle.lines.proofs.split.split.Goals as goal
