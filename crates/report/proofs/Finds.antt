@@ -9,8 +9,7 @@ use Rattle.model.specs.Limits.{max_docid, max_k}
 use Rattle.model.specs.Outcome.{Outcome, refused, done}
 use Rattle.rank.specs.Match.{any_list}
 use Rattle.rank.specs.Keep.{kept_of}
-use Rattle.prune.specs.Cut.{starts, ceiling_at, intervals, block_count}
-use Rattle.prune.specs.Search.{marks}
+use Rattle.prune.specs.Cut.{starts, ceiling_at, block_count}
 use Rattle.prune.specs.Prune.{never, pruned, book, blocks_opened}
 use Rattle.prune.proofs.Cuts.{cuts_asc}
 use Rattle.exhaustive.specs.Exhaustive.{paper_of}
