@@ -1,7 +1,7 @@
 -- An edit of pieces that stand leaves pieces that stand, which hold the old postings and its own change. Assumes nothing.
 use Prim.Native.Nat.{ℕ, ◌+◌, ◌^◌, ◌≤◌, ◌<◌}
 use native.Mathlib.Omega.{arith}
-use mathlib.Core.Path.{◌≡◌, refl, ap}
+use mathlib.Core.Path.{◌≡◌, refl}
 use mathlib.Core.List.{List, [], ◌∷◌}
 use mathlib.Core.Bool.{Bool, true, false, ◌&&◌}
 use borrow.Author.Tests.{le-leb, leb-true, ltb-true, ltb-false, eqb-true, eqb-false}
@@ -11,10 +11,9 @@ use Rattle.model.specs.Limits.{max_docid, max_score, max_postings}
 use Rattle.model.specs.Post.{Post, post, docs}
 use Rattle.model.specs.Runs.{has}
 use Rattle.model.proofs.Lists.{split, and-true}
-use Rattle.shelf.specs.Walk.{Listing, posts_of, strip_of}
-use Rattle.list.specs.Write.{Word, Words, words_of, Writable}
+use Rattle.list.specs.Write.{Word, Words, Writable}
 use Rattle.change.specs.Edits.{Edit, Set, Clear, Withdraw, set_post, clear_post, word, set_word, unless_empty, clear_words, only, every, applied, Termed}
-use Rattle.change.specs.Bytes.{Piece, pieces, contents, bytes_for, posts_for, repacks, anew, set_piece, anew_unless_empty, holds, clear_pieces, changed, docid_in, in_range, few}
+use Rattle.change.specs.Bytes.{Piece, contents, bytes_for, posts_for, repacks, anew, set_piece, anew_unless_empty, holds, clear_pieces, changed, docid_in, in_range, few}
 use Rattle.change.proofs.Postings.{Fit, may-fit, Ranged, one-fit, set-fit, clear-fit, clear_absent}
 use Rattle.change.proofs.Pieces.{Rises, anew_stands}
 

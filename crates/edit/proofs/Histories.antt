@@ -16,7 +16,7 @@ use Rattle.shelf.specs.Check.{checked}
 use Rattle.list.specs.Write.{packed, Word, Words, list_bytes, writing}
 use Rattle.list.proofs.Writes.{blocks-size, list-bytes}
 use Rattle.change.specs.Edits.{Edit, Set, Clear, Withdraw, clear_post, set_word, unless_empty, clear_words, only, every, applied, Termed}
-use Rattle.change.specs.Bytes.{Piece, pieces, joined, contents, anew, set_piece, anew_unless_empty, clear_pieces, changed, few, edited}
+use Rattle.change.specs.Bytes.{Piece, pieces, joined, contents, anew, set_piece, anew_unless_empty, clear_pieces, changed, edited}
 use Rattle.convert.specs.Convert.{converted, turn_words}
 use Rattle.convert.proofs.Layouts.{bodies-even}
 use Rattle.convert.proofs.Leaves.{turned-writing}

@@ -14,7 +14,7 @@ use Rattle.model.specs.Post.{Post, postings, docs, Rising}
 use Rattle.model.specs.Runs.{has, Bytes}
 use Rattle.model.proofs.Lists.{split}
 use Rattle.shelf.specs.Walk.{Listing, posts_of, blocks_at, blocks_of}
-use Rattle.shelf.specs.Check.{checked, judged}
+use Rattle.shelf.specs.Check.{checked}
 use Rattle.list.specs.Write.{Writable}
 use Rattle.list.specs.Answer.{Gives}
 use Rattle.list.specs.declared.answer.Answer.{Answer}

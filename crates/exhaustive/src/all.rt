@@ -10,7 +10,7 @@ use query::read::Verdict as Asking;
 use rank::keep::Kept;
 use shelf::check::Checked;
 
-#[derive(Drop)]
+#[derive(Clone, Copy)]
 pub enum Verdict {
     Done,
     Refused(u8, usize),

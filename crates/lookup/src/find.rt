@@ -63,7 +63,7 @@ pub enum SummaryShown {
 }
 
 // Where the value of a body starts and ends; or a refusal.
-#[derive(Drop)]
+#[derive(Clone, Copy)]
 pub enum BodyShown {
     Part(usize, usize),
     NoBody(u8, usize),
