@@ -1,5 +1,5 @@
 /* Writes a list, rescores a sheet, turns the list to strips, searches, and shows a refusal. From the repository's root:
- *     rt staticlib embed && cc -Iinclude examples/embed.c target/staticlib/libembed.a -o target/embed && target/embed */
+ *     harness/build embed && cc -Iinclude examples/embed.c target/staticlib/libembed.a -o target/embed && target/embed */
 #include "tagmurlen.h"
 #include "tagmurlen_query.h"
 #include <stdio.h>

@@ -1,6 +1,6 @@
 /* The scope's search M2, its hits written into lent rows: by the exhaustive ranker and by the pruned one. The rows past them stay as they were, and so
  * do all rows of a refusal. Exits 0 when all is as it should be. From the repository's root:
- *     rt staticlib lent && cc -Iinclude examples/rows.c target/staticlib/liblent.a -o target/rows && target/rows */
+ *     harness/build lent && cc -Iinclude examples/rows.c target/staticlib/liblent.a -o target/rows && target/rows */
 #include "tagmurlen_rows.h"
 #include <stdio.h>
 #include <string.h>

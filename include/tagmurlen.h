@@ -1,4 +1,4 @@
-/* Tagmurlen: a search over errata sheets, for programs in C. Link target/staticlib/libembed.a (made by `rt staticlib embed`, x86-64).
+/* Tagmurlen: a search over errata sheets, for programs in C. Link target/staticlib/libembed.a (made by `harness/build embed`, for x86-64-v2).
  *
  * Every function returns 0 when it accepts its input, or the number of a refusal (enum tagmurlen_refusal). It stores its result through `value`,
  * or the refusal's offset. It reads only what is lent to it, allocates nothing, keeps nothing, and may be called from any number of threads.

@@ -1,5 +1,5 @@
-/* Tagmurlen: searches that write their hits into lent rows, a docid beside its score. Link target/staticlib/liblent.a (made by `rt staticlib lent`,
- * x86-64); it may be linked beside libembed.a.
+/* Tagmurlen: searches that write their hits into lent rows, a docid beside its score. Link target/staticlib/liblent.a (made by `harness/build lent`,
+ * for x86-64-v2); it may be linked beside libembed.a.
  *
  * Each function hands back a struct by value: the refusal's number (enum tagmurlen_refusal) and offset, both 0 where there is none, and the counts.
  * Rows past the last hit are not touched, and a refusal leaves every row as it was. A pointer is followed by how many elements it points to, as in

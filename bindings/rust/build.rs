@@ -1,4 +1,4 @@
-//! Links the archive that `rt staticlib embed` writes: in the repository's target folder, or where TAGMURLEN_ARCHIVE_DIR says.
+//! Links the archive that `harness/build embed` writes: in the repository's target folder, or where TAGMURLEN_ARCHIVE_DIR says.
 use std::{env, path::PathBuf};
 
 fn main() {

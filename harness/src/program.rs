@@ -29,7 +29,7 @@ impl Program {
             .stdin(Stdio::piped())
             .stdout(Stdio::piped())
             .spawn()
-            .unwrap_or_else(|e| panic!("{} does not start ({e}); `rt check search` builds it", self.path));
+            .unwrap_or_else(|e| panic!("{} does not start ({e}); `harness/build search` builds it", self.path));
         let mut stdin = child.stdin.take().expect("it is piped");
         let _ = stdin.write_all(input);
         drop(stdin);
