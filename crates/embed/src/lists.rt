@@ -13,8 +13,8 @@ pub extern "C" fn tagmurlen_read_list(
     scores: &mut [u16],
     value: &mut u64,
 ) -> u32
-    ensures fills { Fills (docids_of (read_list term bytes.now (length docids.old) (length scores.old))) docids.old docids.new result value.new }
-    ensures fills_2 { Fills (scores_of (read_list term bytes.now (length docids.old) (length scores.old))) scores.old scores.new result value.new }
+    ensures fills_docids { Fills (docids_of (read_list term bytes.now (length docids.old) (length scores.old))) docids.old docids.new result value.new }
+    ensures fills_scores { Fills (scores_of (read_list term bytes.now (length docids.old) (length scores.old))) scores.old scores.new result value.new }
 {
     let answer = list::read::read_list(bytes, term, docids, scores);
     crate::report::tell(answer, value)

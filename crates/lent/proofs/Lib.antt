@@ -1,5 +1,3 @@
 -- The laws of forms over what the caller lends.
 pub mod Parts
-pub mod Views
 pub mod Hits
-pub mod Fills

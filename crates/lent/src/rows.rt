@@ -111,12 +111,7 @@ fn rank<'a>(query: &'a [u8], shelf: &'a [u8], room: usize) -> Ranking
 }
 
 // The k best documents of a query, all its lists read, in the first rows: numbers 1 to 5, 6, 7, 9, 8. A refusal leaves the rows as they were.
-#[unsafe(no_mangle)]
-pub extern "C" fn tagmurlen_rank_rows<'a>(
-    query: &'a [u8],
-    shelf: &'a [u8],
-    rows: &'a mut [Hit],
-) -> RankedRows
+pub fn tagmurlen_rank_rows<'a>(query: &'a [u8], shelf: &'a [u8], rows: &'a mut [Hit]) -> RankedRows
     ensures { Rowed (rank_all query.now shelf.now (length rows.old)) result.number result.offset result.hits rows.old rows.new }
 {
     let ranking = rank(query, shelf, rows.len());
@@ -176,8 +171,7 @@ fn seek<'a>(
 }
 
 // The k best documents of a query in the first rows, and the book of the search: numbers 1 to 5, 6, 7, 9, 8. A refusal leaves the rows as they were.
-#[unsafe(no_mangle)]
-pub extern "C" fn tagmurlen_search_rows<'a>(
+pub fn tagmurlen_search_rows<'a>(
     query: &'a [u8],
     shelf: &'a [u8],
     rows: &'a mut [Hit],
