@@ -76,6 +76,7 @@ stored_is t d (w ∷ ws) =
     (split (eqb w.term t) (λ e. rw e (score-is d w.posts)) (λ e. rw e (stored_is t d ws)))
 
 score-least : (ls : List Listing) (d : ℕ) (y : Asked) (xs : List Asked) → In y xs → y.weight * stored (posts_of (term_blocks y.term ls)) d ≤ score_of (map (term_on ls) xs) d
+score-least ls d y [] i = elim i [ ]
 score-least ls d y (x ∷ xs) (inl e) = rw e (omega arith)
 score-least ls d y (x ∷ xs) (inr i) = omega (arith, score-least ls d y xs i)
 

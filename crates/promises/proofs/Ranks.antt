@@ -18,6 +18,7 @@ use Rattle.rank.proofs.Ranks.{All_insert, sort_ordered, sort-length, take_ordere
 use Rattle.promises.specs.Ranked.{In, Before, InOrder, FewBefore, KBest}
 
 pub all_in : {A : Type 0} (P : A → Type 0) (x : A) (xs : List A) → All P xs → In x xs → P x
+all_in {A = A} P x [] all i = elim i [ ]
 all_in P x (y ∷ ys) all (inl e) = subst P e all.0
 all_in P x (y ∷ ys) all (inr i) = all_in P x ys all.1 i
 
@@ -74,6 +75,7 @@ insert_in h x (y ∷ xs) i = split (ahead x y) (λ e. rw e at i) (λ e. turned_b
 
 in_inserts : (h : Hit) (s hs : List Hit) → In h s ⊎ In h hs → In h (foldl (λ s h. insert h s) s hs)
 in_inserts h s [] (inl p) = p
+in_inserts h s [] (inr p) = elim p [ ]
 in_inserts h s (x ∷ hs) (inl p) = in_inserts h (insert x s) hs (inl (in_insert h x s (inr p)))
 in_inserts h s (x ∷ hs) (inr (inl p)) = in_inserts h (insert x s) hs (inl (in_insert h x s (inl p)))
 in_inserts h s (x ∷ hs) (inr (inr p)) = in_inserts h (insert x s) hs (inr p)
@@ -83,16 +85,20 @@ inserts_in h s [] i = inl i
 inserts_in h s (x ∷ hs) i = ⊎_elim (λ p. ⊎_elim (λ e. inr (inl e)) (λ q. inl q) (insert_in h x s p)) (λ p. inr (inr p)) (inserts_in h (insert x s) hs i)
 
 none_or : (h : Hit) (hs : List Hit) → In h [] ⊎ In h hs → In h hs
+none_or h hs (inl p) = elim p [ ]
 none_or h hs (inr p) = p
 
 -- ---- the first k of them
 
 take_in : (k : ℕ) (h : Hit) (xs : List Hit) → In h (take k xs) → In h xs
+take_in zero h xs i = elim i [ ]
+take_in (suc k) h [] i = elim i [ ]
 take_in (suc k) h (x ∷ xs) (inl e) = inl e
 take_in (suc k) h (x ∷ xs) (inr i) = inr (take_in k h xs i)
 
 in_take : (k : ℕ) (h : Hit) (xs : List Hit) → Ordered xs → In h xs → count_ahead h xs < k → In h (take k xs)
 in_take zero h xs o i l = absurd (omega arith)
+in_take (suc k) h [] o i l = elim i [ ]
 in_take (suc k) h (x ∷ xs) o (inl e) l = inl e
 in_take (suc k) h (x ∷ xs) o (inr i) l =
     split (ahead x h)
