@@ -2,7 +2,7 @@
 ghost use Rattle.std.specs.Prelude.{◌<◌, ◌≤◌};
 
 // How many hits are asked for, and how many bytes the query has.
-#[derive(Drop)]
+#[derive(Clone, Copy)]
 pub(crate) struct Asked {
     pub(crate) k: u8,
     pub(crate) len: usize,

@@ -13,7 +13,7 @@ const CONVERT: u8 = 3;
 // What stands in the output before an edit.
 const BLANK: u8 = 0xa5;
 
-#[derive(Drop)]
+#[derive(Clone, Copy)]
 pub(crate) struct Edit {
     pub(crate) kind: u8,
     pub(crate) term: usize,

@@ -15,41 +15,46 @@ mod tally;
 mod total;
 mod writing;
 
-use libc::STDOUT_FILENO;
+use std::io;
 
-fn print(word: &[u8], tally: &[u64], kind: usize) {
-    io::write_all(STDOUT_FILENO, word);
-    io::print_decimal(STDOUT_FILENO, crate::tally::of(tally, kind));
+fn print(rt: &HostRuntime, word: &str, tally: &[u64], kind: usize) -> io::Result<()> {
+    let n = crate::tally::of(tally, kind);
+    print!(rt; "{word}{n}")
 }
 
-fn report_edits(tally: &[u64]) {
-    print(b"edits accepted ", tally, crate::tally::ACCEPTED);
-    print(b" refused ", tally, crate::tally::REFUSED);
-    print(b"\nconversions accepted ", tally, crate::tally::CONVERTED);
-    print(b" refused ", tally, crate::tally::UNCONVERTED);
-    print(b" strips ", tally, crate::tally::STRIPS);
+fn report_edits(rt: &HostRuntime, tally: &[u64]) -> io::Result<()> {
+    print(rt, "edits accepted ", tally, crate::tally::ACCEPTED)?;
+    print(rt, " refused ", tally, crate::tally::REFUSED)?;
+    print(
+        rt,
+        "\nconversions accepted ",
+        tally,
+        crate::tally::CONVERTED,
+    )?;
+    print(rt, " refused ", tally, crate::tally::UNCONVERTED)?;
+    print(rt, " strips ", tally, crate::tally::STRIPS)
 }
 
-fn report_queries(tally: &[u64]) {
-    print(b"\nqueries ", tally, crate::tally::QUERIES);
-    print(b" hits ", tally, crate::tally::HITS);
-    print(b" intervals ", tally, crate::tally::INTERVALS);
-    print(b" blocks ", tally, crate::tally::BLOCKS);
-    print(b" opened ", tally, crate::tally::OPENED);
+fn report_queries(rt: &HostRuntime, tally: &[u64]) -> io::Result<()> {
+    print(rt, "\nqueries ", tally, crate::tally::QUERIES)?;
+    print(rt, " hits ", tally, crate::tally::HITS)?;
+    print(rt, " intervals ", tally, crate::tally::INTERVALS)?;
+    print(rt, " blocks ", tally, crate::tally::BLOCKS)?;
+    print(rt, " opened ", tally, crate::tally::OPENED)
 }
 
-fn report_rest(tally: &[u64]) {
-    print(b"\ndamaged ", tally, crate::tally::DAMAGED);
-    print(b" faults ", tally, crate::tally::FAULTS);
-    print(b"\ncases ", tally, crate::tally::CASES);
-    print(b"\ndiffer ", tally, crate::tally::DIFFER);
-    io::write_all(STDOUT_FILENO, b"\n");
+fn report_rest(rt: &HostRuntime, tally: &[u64]) -> io::Result<()> {
+    print(rt, "\ndamaged ", tally, crate::tally::DAMAGED)?;
+    print(rt, " faults ", tally, crate::tally::FAULTS)?;
+    print(rt, "\ncases ", tally, crate::tally::CASES)?;
+    print(rt, "\ndiffer ", tally, crate::tally::DIFFER)?;
+    println!(rt; "")
 }
 
-fn report(tally: &[u64]) {
-    report_edits(tally);
-    report_queries(tally);
-    report_rest(tally);
+fn report(rt: &HostRuntime, tally: &[u64]) -> io::Result<()> {
+    report_edits(rt, tally)?;
+    report_queries(rt, tally)?;
+    report_rest(rt, tally)
 }
 
 // A history of edits and conversions; then the same postings in small blocks, and the shelf damaged. Gives the shelf's length.
@@ -71,12 +76,12 @@ fn stage(
 }
 
 // The shelf grows, and shrinks again; the paper's list comes between.
-fn main() {
+fn main(rt: HostRuntime) -> io::Result<()> {
     let mut table = [0u16; 4112];
     let mut tally = [0u64; 14];
-    let mut shelf = io::large_buffer();
-    let mut out = io::large_buffer();
-    let mut fresh = io::large_buffer();
+    let mut shelf = [0u8; 65536];
+    let mut out = [0u8; 65536];
+    let mut fresh = [0u8; 65536];
     let mut seed: u64 = 20261115;
     let n = stage(
         &mut table, &mut shelf, 0, 4000, 29, &mut seed, &mut out, &mut fresh, &mut tally,
@@ -91,5 +96,5 @@ fn main() {
     stage(
         &mut table, &mut shelf, n, 3000, 9, &mut seed, &mut out, &mut fresh, &mut tally,
     );
-    report(&tally);
+    report(&rt, &tally)
 }

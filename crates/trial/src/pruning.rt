@@ -60,7 +60,7 @@ fn hits_opened(
 }
 
 // Whether the search ended with these n rows, and some interval.
-fn right_answer(book: Pruned, docids: &[u32], scores: &[u32], n: usize) -> bool {
+fn right_answer(book: &Pruned, docids: &[u32], scores: &[u32], n: usize) -> bool {
     let verdict = book.verdict;
     if book.intervals == 0 {
         return false;
@@ -93,7 +93,7 @@ pub(crate) fn compare_pruned(
     let mut marks = [0u8; 1025];
     let book = pruned::search::search(query, shelf, 100, &mut firsts, &mut ceilings, &mut marks);
     let m = book.intervals;
-    crate::tally::expect(tally, right_answer(book, docids, scores, n));
+    crate::tally::expect(tally, right_answer(&book, docids, scores, n));
     crate::tally::expect(tally, right_marks(sums, k, &firsts, &ceilings, &marks, m));
     crate::tally::expect(
         tally,
