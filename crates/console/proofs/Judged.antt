@@ -1,12 +1,15 @@
 -- What a call answered, by the tests that the code makes. Assumes nothing.
 use Prim.Native.Nat.{ℕ, ◌≤◌, ◌<◌, min}
 use native.Mathlib.Omega.{arith}
-use mathlib.Core.Path.{◌≡◌, refl, sym, ap}
+use mathlib.Core.Path.{◌≡◌, refl, sym, ap, ◌∙◌}
 use mathlib.Core.Bool.{true, false, false≢true, cond}
 use borrow.Author.Tests.{ltb-true, ltb-false, eqb-false, eq-eqb, ne_eqb}
 use lib.Dec.{T, eqb}
 use lib.IntN.{ℤ, pos, negsuc, nat_abs}
 use lib.Signed.{lt_z, non_neg}
+use mir.Syntax.{w32, w64}
+use mir.Val.{to_z, of_z, SFits}
+use mir.Facts.{to_z-of_z}
 use Rattle.console.specs.declared.call.Call.{Call}
 use Rattle.console.specs.declared.call.Call.TheVariants.{Moved, Ended, Again, Failed}
 use Rattle.console.specs.Calls.{error_of, call_of, sent_of, Moving}
@@ -80,3 +83,29 @@ moving_sent x room r h f = rw f (go x h)
     go Ended m = tt
     go Again m = tt
     go Failed m = tt
+
+-- ---- the same, of numbers as the machine reads them back from their bits; the search applies these
+
+abbrev read : ℤ → ℤ
+read z = to_z w64 (of_z w64 z)
+
+module _ (z e : ℤ) (room : ℕ) (answer : SFits w64 z) where
+  as_read : (x : Call) → x ≡ call_of (read z) e room → call_of z e room ≡ x
+  as_read x f = sym (f ∙ ap (λ (y : ℤ). call_of y e room) (to_z-of_z answer))
+
+  pub call-less : lt_z (pos 0) (read z) ≡ true → nat_abs (read z) < room → call_of z e room ≡ Moved (nat_abs (read z))
+  call-less t h = as_read _ (judge_less e room (read z) t h)
+
+  pub call-most : lt_z (pos 0) (read z) ≡ true → room ≤ nat_abs (read z) → call_of z e room ≡ Moved room
+  call-most t h = as_read _ (judge-most e room (read z) t h)
+
+  pub call-again : SFits w32 e → lt_z (read z) (pos 0) ≡ true → of_z w32 e ≡ 4 → call_of z e room ≡ Again
+  call-again fits t f = as_read _ (judge-error e room (read z) Again t (again e (sym (to_z-of_z fits) ∙ ap (to_z w32) f)))
+
+  pub call-fails : lt_z (read z) (pos 0) ≡ true → (of_z w32 e ≡ 4 → ⊥) → call_of z e room ≡ Failed
+  call-fails t f = as_read _ (judge-error e room (read z) Failed t (fails e (λ g. f (ap (of_z w32) g))))
+
+  pub call-end : lt_z (pos 0) (read z) ≡ false → lt_z (read z) (pos 0) ≡ false → call_of z e room ≡ Ended
+  call-end t u = as_read _ (judge-end e room (read z) t u)
+
+pub ruleset calls = (call-less, call-most, call-again, call-fails, call-end)

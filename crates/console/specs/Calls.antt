@@ -1,6 +1,10 @@
 -- What a call of the system answered, and what comes of it. A call is handed some bytes; it answers how many it moved, 0 at the end, or less than 0
 -- with an error. Assumes nothing.
-use Rattle.std.specs.Prelude.{ℕ, ◌+◌, ◌-◌, ◌^◌, ◌≤◌, ◌<◌, min, ◌≡◌, true, false, cond, List, eqb, ℤ, pos, negsuc, length, take}
+use Rattle.std.specs.Prelude.{ℕ, ◌+◌, ◌-◌, ◌^◌, ◌≤◌, ◌<◌, min, ◌≡◌, true, false, cond, List, eqb, ℤ, pos, negsuc, length, take, Result, Ok, Err}
+use Rattle.std.specs.IoError.{error_kind}
+use Rattle.std.specs.declared.io.Error.{Error}
+use Rattle.std.specs.declared.io.ErrorKind.{ErrorKind}
+use Rattle.std.specs.declared.io.ErrorKind.TheVariants.{Interrupted}
 use Rattle.console.specs.declared.call.Call.{Call}
 use Rattle.console.specs.declared.call.Call.TheVariants.{Moved, Ended, Again, Failed}
 use Rattle.console.specs.declared.call.Got.{Got}
@@ -10,6 +14,20 @@ use Rattle.console.specs.declared.call.Next.TheVariants.{On, Over}
 -- the error of a call that a signal interrupted (EINTR) is 4
 abbrev pub interrupted : ℕ
 interrupted = 4
+
+-- std answers in an `io::Result` what the call under it answered: how many bytes it moved, or else -1, which is less than 0
+abbrev pub got_of : Result ℕ Error → ℤ
+got_of (Ok n) = pos n
+got_of (Err e) = negsuc 0
+
+-- and which error it left: all that is asked of it is whether a signal interrupted the call
+abbrev pub errno_of_kind : ErrorKind → ℤ
+errno_of_kind Interrupted = pos interrupted
+errno_of_kind _ = pos 0
+
+abbrev pub errno_of : Result ℕ Error → ℤ
+errno_of (Ok n) = pos 0
+errno_of (Err e) = errno_of_kind (error_kind e)
 
 abbrev pub error_of : ℤ → Call
 error_of (pos e) = cond (eqb e interrupted) Again Failed

@@ -1,8 +1,12 @@
 // What a call of the system answered, and what comes of it.
-ghost use Rattle.std.specs.Prelude.{◌≡◌};
-ghost use Rattle.console.specs.Calls.{call_of, sent_of, next_of, Countable};
+ghost use Rattle.std.specs.Prelude.{◌≡◌, ◌<◌, ◌^◌, IfOk};
+ghost use Rattle.console.specs.Calls.{got_of, errno_of, call_of, sent_of, next_of, Countable};
 
-use libc::EINTR;
+use std::io;
+use std::io::ErrorKind;
+
+// The error of a call that a signal interrupted.
+const EINTR: i32 = 4;
 
 // Bytes were moved; there is no more; a signal interrupted the call before it moved a byte; it failed.
 #[derive(Drop)]
@@ -14,6 +18,7 @@ pub enum Call {
 }
 
 // A call that was handed `room` bytes, by its answer and the error that it left.
+#[tactic(auto, using(crate::proofs::Judged::calls))]
 pub(crate) fn judge(got: isize, error: i32, room: usize) -> Call
     ensures { result ≡ call_of got error room }
 {
@@ -31,6 +36,20 @@ pub(crate) fn judge(got: isize, error: i32, room: usize) -> Call
         return Call::Failed;
     }
     Call::Ended
+}
+
+// What a reader or a writer that was handed `room` bytes answered, judged as the call under it.
+pub(crate) fn answered(answer: io::Result<usize>, room: usize) -> Call
+    requires { IfOk answer (λ n. n < 2 ^ 63) }
+    ensures { result ≡ call_of (got_of answer) (errno_of answer) room }
+{
+    match answer {
+        Ok(n) => judge(n as isize, 0, room),
+        Err(e) => match e.kind() {
+            ErrorKind::Interrupted => judge(-1, EINTR, room),
+            _ => judge(-1, 0, room),
+        },
+    }
 }
 
 // A write that moves nothing has failed: output has no end.

@@ -3,27 +3,28 @@ ghost use Rattle.std.specs.Prelude.{◌<◌, length};
 ghost use Rattle.console.specs.Calls.{Moving, Read};
 
 use crate::call::{Call, Got, Next};
+use std::io::Read;
 
 // How often an interrupted call is tried again, in all.
 pub(crate) const TRIES: usize = 1000000;
 
 // One call; `buf` has room.
-fn read_some(fd: i32, buf: &mut [u8]) -> Call
+fn read_some<R: Read>(from: &mut R, buf: &mut [u8]) -> Call
     requires { 0 < length buf.old }
     ensures { Moving result (length buf.old) }
 {
-    let got = libc::read(fd, buf);
-    crate::call::judge(got, os::errno(), buf.len())
+    let room = buf.len();
+    crate::call::answered(from.read(buf), room)
 }
 
 // Reads to the end of the input, or until `buf` is full. Where a call failed nothing was got, and it is not whole.
-pub fn read_whole(fd: i32, buf: &mut [u8]) -> Got
+pub fn read_whole<R: Read>(from: &mut R, buf: &mut [u8]) -> Got
     ensures { Read buf.new result }
 {
     let mut done = 0;
     let mut tries = TRIES;
     while done < buf.len() {
-        let call = read_some(fd, &mut buf[done..]);
+        let call = read_some(from, &mut buf[done..]);
         match crate::call::onward(call, done, tries) {
             Next::On(moved, left) => {
                 done = moved;

@@ -1,15 +1,15 @@
 // The checker program: standard input is a shelf.
-use libc::STDIN_FILENO;
+use std::io::{Read, Write};
 
 // One byte more is read than a shelf may have, so that one that is too long is seen to be.
-pub fn run() {
+pub fn run<I: Read, O: Write, E: Write>(input: &mut I, output: &mut O, errors: &mut E) {
     let mut shelf = [0u8; 1048577];
     let mut out = [0u8; 65536];
     let mut err = [0u8; 64];
-    let got = console::input::read_whole(STDIN_FILENO, &mut shelf);
+    let got = console::input::read_whole(input, &mut shelf);
     let n = got.n;
     let said = checking::verdict::respond(got.whole, &shelf[0..n], &mut out, &mut err);
     let o = said.out;
     let e = said.err;
-    console::output::say(&out[0..o], &err[0..e]);
+    console::output::say(output, errors, &out[0..o], &err[0..e]);
 }

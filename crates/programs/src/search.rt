@@ -1,15 +1,15 @@
 // The search program: standard input is a query and then a shelf.
-use libc::STDIN_FILENO;
+use std::io::{Read, Write};
 
 // One byte more is read than is searched, so that an input that is too long is seen to be.
-pub fn run() {
+pub fn run<I: Read, O: Write, E: Write>(asked: &mut I, output: &mut O, errors: &mut E) {
     let mut input = [0u8; 65537];
     let mut out = [0u8; 65536];
     let mut err = [0u8; 64];
-    let got = console::input::read_whole(STDIN_FILENO, &mut input);
+    let got = console::input::read_whole(asked, &mut input);
     let n = got.n;
     let said = report::report::respond(got.whole, &input[0..n], &mut out, &mut err);
     let o = said.out;
     let e = said.err;
-    console::output::say(&out[0..o], &err[0..e]);
+    console::output::say(output, errors, &out[0..o], &err[0..e]);
 }
