@@ -1,0 +1,21 @@
+-- What is said lies within its buffers. Assumes nothing.
+use Rattle.std.proofs.Common.{ℕ, ◌≡◌, sym, length, replicate}
+use Rattle.std.proofs.lemmas.List.{length-replicate}
+use Rattle.lines.proofs.Speaking.{output-fits, error-fits}
+use Rattle.programs.proofs.checker.run.Goals as goal
+
+-- an array of zeros is as long as it says; at any length, so that none is counted out
+zeros : (n : ℕ) → n ≡ length {A = ℕ} (replicate {A = ℕ} n 0)
+zeros n = sym (length-replicate n 0)
+
+pub slice_bounds-read_whole-end : goal.slice_bounds-read_whole-end
+slice_bounds-read_whole-end g c = zeros 1048577
+
+pub slice_bounds-respond-end : goal.slice_bounds-respond-end
+slice_bounds-respond-end g c = c.read_whole-got.ensures.within
+
+pub slice_bounds-say-end : goal.slice_bounds-say-end
+slice_bounds-say-end g c = output-fits _ _ _ _ _ _ c.respond-said.ensures
+
+pub slice_bounds-say-end-2 : goal.slice_bounds-say-end-2
+slice_bounds-say-end-2 g c = error-fits _ _ _ _ _ _ c.respond-said.ensures
