@@ -14,8 +14,7 @@ use Rattle.model.proofs.Lists.{rest_cons, rest-none}
 use Rattle.wire.specs.Read.{Read, got, stopped, further}
 use Rattle.wire.specs.Number.{num}
 use Rattle.wire.specs.Gap.{gap, gap_at, score, score_at}
-use Rattle.wire.specs.declared.gap.GapRead.TheVariants.{Gap, NoGap}
-use Rattle.wire.specs.declared.gap.ScoreRead.TheVariants.{Score, NoScore}
+use Rattle.std.specs.Prelude.{Ok, Err}
 use Rattle.wire.proofs.Gaps.{gap-got, gap-not, score-got, score-not}
 use Rattle.block.specs.Body.{score_in, wide, with_doc, gapped, posting, posts, onto, and_on, fits, read_on, read_to}
 use Rattle.block.specs.Cursor.{past, moved, stepped, ended, step_of, step_at, scored_at, posts_at, run_at}
@@ -40,7 +39,7 @@ score_two s = go (leb 2 (length s) && ltb 0 (num 2 s))
     go false = refl
 
 module _ (g w : List ℕ) (c : Cursor) where
-  pub scored-strip : c.strip ≡ true → (x p : ℕ) → score_at w c.points ≡ Score x p → scored_at g w c ≡ Posting c.doc x (past c.strip c.greatest c.left c.at p (post c.doc x))
+  pub scored-strip : c.strip ≡ true → (x p : ℕ) → score_at w c.points ≡ Ok (x, p) → scored_at g w c ≡ Posting c.doc x (past c.strip c.greatest c.left c.at p (post c.doc x))
   unfolding scored_at
   scored-strip s x p e =
       let q = score-got w c.points x p e in
@@ -49,18 +48,18 @@ module _ (g w : List ℕ) (c : Cursor) where
       let there : c.points + 2 ≡ p = omega (arith, two, q.2) in
       rw (s, q.1, here, there)
 
-  pub scored-turn : c.strip ≡ false → (x p : ℕ) → score_at g c.at ≡ Score x p → scored_at g w c ≡ Posting c.doc x (past c.strip c.greatest c.left p c.points (post c.doc x))
+  pub scored-turn : c.strip ≡ false → (x p : ℕ) → score_at g c.at ≡ Ok (x, p) → scored_at g w c ≡ Posting c.doc x (past c.strip c.greatest c.left p c.points (post c.doc x))
   unfolding scored_at
   scored-turn s x p e =
       let q = score-got g c.at x p e in
       let here : c.points + 0 ≡ c.points = omega arith in
       rw (s, q.1, here, ← q.2)
 
-  pub strip-not : c.strip ≡ true → (p : ℕ) → score_at w c.points ≡ NoScore p → scored_at g w c ≡ Bad
+  pub strip-not : c.strip ≡ true → (p : ℕ) → score_at w c.points ≡ Err p → scored_at g w c ≡ Bad
   unfolding scored_at
   strip-not s p e = let q = score-not w c.points p e in rw (s, q.1)
 
-  pub turn-not : c.strip ≡ false → (p : ℕ) → score_at g c.at ≡ NoScore p → scored_at g w c ≡ Bad
+  pub turn-not : c.strip ≡ false → (p : ℕ) → score_at g c.at ≡ Err p → scored_at g w c ≡ Bad
   unfolding scored_at
   turn-not s p e = let q = score-not g c.at p e in rw (s, q.1)
 
@@ -110,20 +109,20 @@ module _ (g w : List ℕ) (c : Cursor) (some : c.left ≡ 0 → ⊥) where
   unfolding step_at
   later e = rw e (later_of c.strip (drop c.at g) (drop c.points w) c.greatest c.left c.at c.points c.doc some)
 
-  pub step-gap : c.first ≡ false → (x p : ℕ) → gap_at 4 g c.at ≡ Gap x p → c.doc + 1 + x ≤ c.greatest → step_at g w c ≡ scored_at g w (moved c p (c.doc + 1 + x))
+  pub step-gap : c.first ≡ false → (x p : ℕ) → gap_at 4 g c.at ≡ Ok (x, p) → c.doc + 1 + x ≤ c.greatest → step_at g w c ≡ scored_at g w (moved c p (c.doc + 1 + x))
   unfolding gapped scored_at
   step-gap e x p q h =
       let r = gap-got 4 g c.at x p q in
       let on = scored-on c.strip g (drop c.points w) c.greatest (c.left - 1) (c.doc + 1 + x) c.at c.points r.0 in
       rw (later e, r.1, le-leb (c.doc + 1 + x) c.greatest h) (on ∙ ap (λ (y : ℕ). scored_at g w (moved c y (c.doc + 1 + x))) (sym r.2))
 
-  pub step-above : c.first ≡ false → (x p : ℕ) → gap_at 4 g c.at ≡ Gap x p → c.greatest < c.doc + 1 + x → step_at g w c ≡ Bad
+  pub step-above : c.first ≡ false → (x p : ℕ) → gap_at 4 g c.at ≡ Ok (x, p) → c.greatest < c.doc + 1 + x → step_at g w c ≡ Bad
   unfolding gapped
   step-above e x p q h =
       let r = gap-got 4 g c.at x p q in
       rw (later e, r.1, lt-leb (c.doc + 1 + x) c.greatest h)
 
-  pub step-not : c.first ≡ false → (p : ℕ) → gap_at 4 g c.at ≡ NoGap p → step_at g w c ≡ Bad
+  pub step-not : c.first ≡ false → (p : ℕ) → gap_at 4 g c.at ≡ Err p → step_at g w c ≡ Bad
   unfolding gapped
   step-not e p q =
       let r = gap-not 4 g c.at p q in

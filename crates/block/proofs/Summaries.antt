@@ -14,7 +14,7 @@ use Rattle.model.proofs.Lists.{split, and-true}
 use Rattle.model.proofs.Posts.{rising-last}
 use Rattle.wire.specs.Number.{num, be}
 use Rattle.wire.specs.Field.{field_len, whole, field_bytes, field_at}
-use Rattle.wire.specs.declared.field.FieldRead.TheVariants.{Whole, Missing}
+use Rattle.std.specs.Prelude.{Some, None}
 use Rattle.wire.proofs.Numbers.{num-be, be-length}
 use Rattle.wire.proofs.Fields.{field_is, field-not, whole-size, whole_round, len_round, head-drop, field-size}
 use Rattle.block.specs.Summary.{is_sum, sum_of, sum_bytes, sum_at, right_sum, summary_of}
@@ -24,17 +24,17 @@ use Rattle.block.specs.declared.summary.SummaryRead.TheVariants.{Sum, NoSum}
 -- ---- at a place
 
 module _ (s : List ℕ) (at : ℕ) where
-  pub sum-none : field_at 2 s at ≡ Missing → sum_at s at ≡ NoSum
+  pub sum-none : field_at 2 s at ≡ None → sum_at s at ≡ NoSum
   unfolding sum_at is_sum
   sum-none e = rw (field-not 2 s at e)
 
-  pub sum-other : (n : ℕ) → field_at 2 s at ≡ Whole n → (n ≡ 9 → ⊥) → sum_at s at ≡ NoSum
+  pub sum-other : (n : ℕ) → field_at 2 s at ≡ Some n → (n ≡ 9 → ⊥) → sum_at s at ≡ NoSum
   unfolding sum_at is_sum
   sum-other n e z =
       let i = field_is 2 s at n e in
       rw (i.0, i.1, ne_eqb n 9 z)
 
-  pub sum-there : (n : ℕ) → field_at 2 s at ≡ Whole n → n ≡ 9 → sum_at s at ≡ Sum (sum_of false (drop at s))
+  pub sum-there : (n : ℕ) → field_at 2 s at ≡ Some n → n ≡ 9 → sum_at s at ≡ Sum (sum_of false (drop at s))
   unfolding sum_at is_sum
   sum-there n e q =
       let i = field_is 2 s at n e in

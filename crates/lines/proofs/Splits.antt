@@ -9,33 +9,33 @@ use lib.ListN.{length, drop, length-drop}
 use lib.Seq.{drop-drop}
 use Rattle.model.proofs.Lists.{split}
 use Rattle.wire.specs.Field.{whole, field_len, field_at}
-use Rattle.wire.specs.declared.field.FieldRead.TheVariants.{Whole, Missing}
+use Rattle.std.specs.Prelude.{Some, None}
 use Rattle.wire.proofs.Fields.{field_is, field-not, whole-size}
 use Rattle.lines.specs.Split.{of_query, query_field_at, size_in, query_size}
 
 -- ---- a field of the query, by the two tags
 
 module _ (s : List ℕ) (at : ℕ) where
-  pub found-k : (n : ℕ) → field_at 0x20 s at ≡ Whole n → query_field_at s at ≡ Whole n
+  pub found-k : (n : ℕ) → field_at 0x20 s at ≡ Some n → query_field_at s at ≡ Some n
   unfolding query_field_at of_query
   found-k n e = let i = field_is 0x20 s at n e in rw (i.0, i.1)
 
-  pub found-term : field_at 0x20 s at ≡ Missing → query_field_at s at ≡ field_at 0x21 s at
+  pub found-term : field_at 0x20 s at ≡ None → query_field_at s at ≡ field_at 0x21 s at
   unfolding query_field_at of_query field_at
   found-term e = rw (field-not 0x20 s at e)
 
-  of_is : (n : ℕ) → query_field_at s at ≡ Whole n → (of_query (drop at s) ≡ true) × (field_len (drop at s) ≡ n)
+  of_is : (n : ℕ) → query_field_at s at ≡ Some n → (of_query (drop at s) ≡ true) × (field_len (drop at s) ≡ n)
   unfolding query_field_at
   of_is n e =
       split (of_query (drop at s))
-      (λ w. let q : Whole (field_len (drop at s)) ≡ Whole n = rw w at e in (w, (cc)))
-      (λ w. let q : Missing ≡ Whole n = rw w at e in let z : ◌≡◌ {A = ℕ} 0 1 = cc in absurd (omega arith))
+      (λ w. let q : Some (field_len (drop at s)) ≡ Some n = rw w at e in (w, (cc)))
+      (λ w. let q : None ≡ Some n = rw w at e in let z : ◌≡◌ {A = ℕ} 0 1 = cc in absurd (omega arith))
 
-  of-not : query_field_at s at ≡ Missing → of_query (drop at s) ≡ false
+  of-not : query_field_at s at ≡ None → of_query (drop at s) ≡ false
   unfolding query_field_at
   of-not e =
       split (of_query (drop at s))
-      (λ w. let q : Whole (field_len (drop at s)) ≡ Missing = rw w at e in let z : ◌≡◌ {A = ℕ} 0 1 = cc in absurd (omega arith))
+      (λ w. let q : Some (field_len (drop at s)) ≡ None = rw w at e in let z : ◌≡◌ {A = ℕ} 0 1 = cc in absurd (omega arith))
       (λ w. w)
 
 of_size : (s : List ℕ) → of_query s ≡ true → 3 + field_len s ≤ length s
@@ -68,7 +68,7 @@ unfolding query_size
 passing_start s = record { fuel = length s; enough = omega arith; within = omega arith; left = omega arith }
 
 module _ (s : List ℕ) (at : ℕ) (p : Passing s at) where
-  pub passing_turn : (n : ℕ) → query_field_at s at ≡ Whole n → Passing s (at + (3 + n))
+  pub passing_turn : (n : ℕ) → query_field_at s at ≡ Some n → Passing s (at + (3 + n))
   passing_turn n e =
       let i = of_is s at n e in
       let room = of_size (drop at s) i.0 in
@@ -80,7 +80,7 @@ module _ (s : List ℕ) (at : ℕ) (p : Passing s at) where
         left = rw (← i.1, ← drop-drop (3 + field_len (drop at s)) at s) (omega (arith, p.left));
       }
 
-  pub passing_end : query_field_at s at ≡ Missing → query_size s ≡ at
+  pub passing_end : query_field_at s at ≡ None → query_size s ≡ at
   passing_end e = omega (arith, p.left, size_none p.fuel (drop at s) (of-not s at e))
 
 -- ---- the query lies within the input

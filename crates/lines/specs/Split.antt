@@ -2,16 +2,16 @@
 -- length does not count here: a whole field of a wrong length is the query's, and is refused there. Assumes nothing.
 use Rattle.std.specs.Prelude.{ℕ, zero, suc, ◌+◌, List, Bool, ◌||◌, cond, length, drop}
 use Rattle.wire.specs.Field.{whole, field_len}
-use Rattle.wire.specs.declared.field.FieldRead.{FieldRead}
-use Rattle.wire.specs.declared.field.FieldRead.TheVariants.{Whole, Missing}
+use Rattle.std.specs.Prelude.{Option}
+use Rattle.std.specs.Prelude.{Some, None}
 
 -- the bytes begin with a whole field of one of the query's tags
 unfoldable pub of_query : List ℕ → Bool
 of_query s = whole 0x20 s || whole 0x21 s
 
 -- such a field at a place
-unfoldable pub query_field_at : List ℕ → ℕ → FieldRead
-query_field_at s at = cond (of_query (drop at s)) (Whole (field_len (drop at s))) Missing
+unfoldable pub query_field_at : List ℕ → ℕ → Option ℕ
+query_field_at s at = cond (of_query (drop at s)) (Some (field_len (drop at s))) None
 
 -- the bytes of such fields off the front, of which there are at most `fuel`
 unfoldable pub size_in : (fuel : ℕ) → List ℕ → ℕ

@@ -9,7 +9,7 @@ use lib.Dec.{leb, ltb}
 use lib.ListN.{length, drop}
 use Rattle.model.proofs.Lists.{split, and-true}
 use Rattle.wire.specs.Field.{field_at}
-use Rattle.wire.specs.declared.field.FieldRead.TheVariants.{Whole, Missing}
+use Rattle.std.specs.Prelude.{Some, None}
 use Rattle.wire.proofs.Fields.{field_is, field-not}
 use Rattle.block.specs.Summary.{sum_of}
 use Rattle.block.specs.Body.{is_strip, tag_of}
@@ -85,10 +85,10 @@ unfolding body_shown
 body_refused s n o j = refl
 
 module _ (s : List ℕ) (b : ℕ) where
-  pub part-there : (n : ℕ) → field_at (tag_of (is_strip (drop b s))) s b ≡ Whole n → part_at s b ≡ Part (b + 3) (b + 3 + n)
+  pub part-there : (n : ℕ) → field_at (tag_of (is_strip (drop b s))) s b ≡ Some n → part_at s b ≡ Part (b + 3) (b + 3 + n)
   unfolding part_at
   part-there n e = let i = field_is (tag_of (is_strip (drop b s))) s b n e in rw (i.0, i.1)
 
-  pub part_none : field_at (tag_of (is_strip (drop b s))) s b ≡ Missing → part_at s b ≡ NoBody 12 0
+  pub part_none : field_at (tag_of (is_strip (drop b s))) s b ≡ None → part_at s b ≡ NoBody 12 0
   unfolding part_at
   part_none e = rw (field-not (tag_of (is_strip (drop b s))) s b e)

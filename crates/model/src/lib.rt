@@ -1,5 +1,7 @@
-// The words that all crates share: limits, a posting, an outcome, runs of numbers. No functions: the limits by name, and definitions and laws.
+// The words that all crates share: limits by name, a refusal, a posting, an outcome, runs of numbers; and the laws on them.
 #![tactic(auto)]
+
+pub mod refusal;
 
 // Sheet numbers are 1 to this.
 pub const MAX_DOCID: u32 = 16777215;

@@ -13,7 +13,7 @@ use Rattle.model.specs.Runs.{has}
 use Rattle.model.proofs.Lists.{split, and-true}
 use Rattle.wire.specs.Number.{num}
 use Rattle.wire.specs.Field.{whole, field_len, field_at}
-use Rattle.wire.specs.declared.field.FieldRead.TheVariants.{Whole, Missing}
+use Rattle.std.specs.Prelude.{Some, None}
 use Rattle.wire.proofs.Fields.{field_is, field-not, whole-size}
 use Rattle.query.specs.Query.{is_field, tag_k, tag_term, term_at, asked_in, terms_in, term_count, field_count}
 use Rattle.query.specs.Answers.{earlier}
@@ -22,11 +22,11 @@ use Rattle.query.specs.declared.fields.FieldsRead.TheVariants.{Terms, Wrong}
 -- ---- a field of a tag and a length
 
 module _ (tag len : ℕ) (s : List ℕ) (at : ℕ) where
-  pub is-field-whole : (n : ℕ) → field_at tag s at ≡ Whole n → is_field tag len (drop at s) ≡ eqb n len
+  pub is-field-whole : (n : ℕ) → field_at tag s at ≡ Some n → is_field tag len (drop at s) ≡ eqb n len
   unfolding is_field
   is-field-whole n e = let i = field_is tag s at n e in rw (i.0, i.1)
 
-  pub is-field_missing : field_at tag s at ≡ Missing → is_field tag len (drop at s) ≡ false
+  pub is-field_missing : field_at tag s at ≡ None → is_field tag len (drop at s) ≡ false
   unfolding is_field
   is-field_missing e = rw (field-not tag s at e)
 

@@ -14,7 +14,7 @@ use Rattle.model.specs.Outcome.{Outcome, refused, done, and_then}
 use Rattle.model.proofs.Lists.{split, and-true, rest_cons, rest-none}
 use Rattle.wire.specs.Number.{num}
 use Rattle.wire.specs.Field.{whole, field_len, field_value, field_at}
-use Rattle.wire.specs.declared.field.FieldRead.TheVariants.{Whole, Missing}
+use Rattle.std.specs.Prelude.{Some, None}
 use Rattle.wire.proofs.Fields.{field_is, field-not, whole-size, whole-tag, len_at, value-at}
 use Rattle.block.specs.Summary.{is_sum, sum_of, right_sum}
 use Rattle.block.specs.Body.{is_strip, tag_of}
@@ -56,17 +56,17 @@ unfolding head_count
 count_at s at = rw (drop-drop 7 at s)
 
 module _ (floor : ℕ) (s : List ℕ) (at : ℕ) where
-  pub head-none : field_at 1 s at ≡ Missing → head_at floor s at ≡ NoHead
+  pub head-none : field_at 1 s at ≡ None → head_at floor s at ≡ NoHead
   unfolding head_at right_head
   head-none e = rw (field-not 1 s at e)
 
-  pub head-other : (n : ℕ) → field_at 1 s at ≡ Whole n → (n ≡ 5 → ⊥) → head_at floor s at ≡ NoHead
+  pub head-other : (n : ℕ) → field_at 1 s at ≡ Some n → (n ≡ 5 → ⊥) → head_at floor s at ≡ NoHead
   unfolding head_at right_head
   head-other n e z =
       let i = field_is 1 s at n e in
       rw (i.0, i.1, ne_eqb n 5 z)
 
-  module _ (n t k : ℕ) (e : field_at 1 s at ≡ Whole n) (five : n ≡ 5) (te : t ≡ num 4 (drop (at + 3) s)) (ke : k ≡ num 1 (drop (at + 7) s)) where
+  module _ (n t k : ℕ) (e : field_at 1 s at ≡ Some n) (five : n ≡ 5) (te : t ≡ num 4 (drop (at + 3) s)) (ke : k ≡ num 1 (drop (at + 7) s)) where
     numbers : head_at floor s at ≡ cond (leb floor t && (ltb 0 k && leb k 64)) (Head t k) NoHead
     unfolding head_at right_head
     numbers =

@@ -13,7 +13,7 @@ use Rattle.model.specs.Runs.{Bytes}
 use Rattle.model.proofs.Lists.{bytes_drop, split, and-true}
 use Rattle.wire.specs.Number.{num, be}
 use Rattle.wire.specs.Field.{field_len, whole, field_value, field_bytes, field_at}
-use Rattle.wire.specs.declared.field.FieldRead.TheVariants.{Whole, Missing}
+use Rattle.std.specs.Prelude.{Some, None}
 use Rattle.wire.proofs.Numbers.{num-be, be-length, be-num}
 
 -- ---- at a place
@@ -30,20 +30,20 @@ whole-at t s at =
     rw (length-drop at s, g)
 
 module _ (t : ℕ) (s : List ℕ) (at : ℕ) where
-  pub field-short : length s < at + 3 → field_at t s at ≡ Missing
+  pub field-short : length s < at + 3 → field_at t s at ≡ None
   unfolding field_at
   field-short h = rw (whole-at t s at, lt-leb 3 (length s - at) (omega arith))
 
-  pub field-other : at + 3 ≤ length s → (get_or s at 0 ≡ t → ⊥) → field_at t s at ≡ Missing
+  pub field-other : at + 3 ≤ length s → (get_or s at 0 ≡ t → ⊥) → field_at t s at ≡ None
   unfolding field_at
   field-other h n = rw (whole-at t s at, le-leb 3 (length s - at) (omega arith), ne_eqb (get_or s at 0) t n)
 
-  pub field_cut : at + 3 ≤ length s → get_or s at 0 ≡ t → length s < at + (3 + num 2 (drop (at + 1) s)) → field_at t s at ≡ Missing
+  pub field_cut : at + 3 ≤ length s → get_or s at 0 ≡ t → length s < at + (3 + num 2 (drop (at + 1) s)) → field_at t s at ≡ None
   unfolding field_at
   field_cut h e l =
       rw (whole-at t s at, le-leb 3 (length s - at) (omega arith), eq-eqb (get_or s at 0) t e, len_at s at, lt-leb (3 + num 2 (drop (at + 1) s)) (length s - at) (omega arith))
 
-  pub field-there : at + 3 ≤ length s → get_or s at 0 ≡ t → at + (3 + num 2 (drop (at + 1) s)) ≤ length s → field_at t s at ≡ Whole (num 2 (drop (at + 1) s))
+  pub field-there : at + 3 ≤ length s → get_or s at 0 ≡ t → at + (3 + num 2 (drop (at + 1) s)) ≤ length s → field_at t s at ≡ Some (num 2 (drop (at + 1) s))
   unfolding field_at
   field-there h e l =
       rw (whole-at t s at, le-leb 3 (length s - at) (omega arith), eq-eqb (get_or s at 0) t e, len_at s at, le-leb (3 + num 2 (drop (at + 1) s)) (length s - at) (omega arith))
@@ -73,21 +73,21 @@ whole-tag t s e =
 
 -- ---- from what the code found back to what was read
 
-pub field_is : (t : ℕ) (s : List ℕ) (at n : ℕ) → field_at t s at ≡ Whole n → (whole t (drop at s) ≡ true) × (field_len (drop at s) ≡ n)
+pub field_is : (t : ℕ) (s : List ℕ) (at n : ℕ) → field_at t s at ≡ Some n → (whole t (drop at s) ≡ true) × (field_len (drop at s) ≡ n)
 unfolding field_at
 field_is t s at n e =
     split (whole t (drop at s))
-    (λ w. let q : Whole (field_len (drop at s)) ≡ Whole n = rw w at e in (w, (cc)))
-    (λ w. let q : Missing ≡ Whole n = rw w at e in let z : ◌≡◌ {A = ℕ} 0 1 = cc in absurd (omega arith))
+    (λ w. let q : Some (field_len (drop at s)) ≡ Some n = rw w at e in (w, (cc)))
+    (λ w. let q : None ≡ Some n = rw w at e in let z : ◌≡◌ {A = ℕ} 0 1 = cc in absurd (omega arith))
 
-pub field-not : (t : ℕ) (s : List ℕ) (at : ℕ) → field_at t s at ≡ Missing → whole t (drop at s) ≡ false
+pub field-not : (t : ℕ) (s : List ℕ) (at : ℕ) → field_at t s at ≡ None → whole t (drop at s) ≡ false
 unfolding field_at
 field-not t s at e =
     split (whole t (drop at s))
-    (λ w. let q : Whole (field_len (drop at s)) ≡ Missing = rw w at e in let z : ◌≡◌ {A = ℕ} 0 1 = cc in absurd (omega arith))
+    (λ w. let q : Some (field_len (drop at s)) ≡ None = rw w at e in let z : ◌≡◌ {A = ℕ} 0 1 = cc in absurd (omega arith))
     (λ w. w)
 
-pub field_room : (t : ℕ) (s : List ℕ) (at n : ℕ) → field_at t s at ≡ Whole n → at + (3 + n) ≤ length s
+pub field_room : (t : ℕ) (s : List ℕ) (at n : ℕ) → field_at t s at ≡ Some n → at + (3 + n) ≤ length s
 field_room t s at n e =
     let i = field_is t s at n e in
     omega (arith, whole-size t (drop at s) i.0, i.1, length-drop at s)

@@ -13,38 +13,37 @@ use Rattle.model.specs.Runs.{Bytes}
 use Rattle.model.proofs.Lists.{split, and-true, and-false, rest_cons, rest-none}
 use Rattle.wire.specs.Read.{Read, got, stopped}
 use Rattle.wire.specs.Number.{num, be}
-use Rattle.wire.specs.Gap.{more, gap, gap_in, gap_bytes, score, gap_past, score_past, gap_at, score_at}
-use Rattle.wire.specs.declared.gap.GapRead.{GapRead}
-use Rattle.wire.specs.declared.gap.GapRead.TheVariants.{Gap, NoGap}
-use Rattle.wire.specs.declared.gap.ScoreRead.TheVariants.{Score, NoScore}
+use Rattle.wire.specs.Gap.{more, gap, gap_in, gap_bytes, score, read_past, gap_at, score_at}
+use Rattle.std.specs.Prelude.{Result}
+use Rattle.std.specs.Prelude.{Ok, Err}
 use Rattle.wire.proofs.Numbers.{num-be, be-num, be-length, num-below}
 
 -- ---- the gap number at a place
 
-pub gap-none : (s : List ℕ) (at : ℕ) → gap_at 0 s at ≡ NoGap at
+pub gap-none : (s : List ℕ) (at : ℕ) → gap_at 0 s at ≡ Err at
 unfolding gap_at gap
 gap-none s at = rw add-zero
 
-pub gap-end : (n : ℕ) (s : List ℕ) (at : ℕ) → length s ≤ at → gap_at n s at ≡ NoGap at
+pub gap-end : (n : ℕ) (s : List ℕ) (at : ℕ) → length s ≤ at → gap_at n s at ≡ Err at
 unfolding gap_at gap
 gap-end zero s at h = rw add-zero
 gap-end (suc n) s at h = rw (rest-none s at h, add-zero)
 
-pub gap-last : (n : ℕ) (s : List ℕ) (at : ℕ) → (n ≡ 0 → ⊥) → at < length s → get_or s at 0 < 128 → gap_at n s at ≡ Gap (get_or s at 0) (at + 1)
+pub gap-last : (n : ℕ) (s : List ℕ) (at : ℕ) → (n ≡ 0 → ⊥) → at < length s → get_or s at 0 < 128 → gap_at n s at ≡ Ok (get_or s at 0, at + 1)
 unfolding gap_at gap
 gap-last zero s at z h l = absurd (z refl)
 gap-last (suc n) s at z h l = rw (rest_cons s at h, lt-ltb (get_or s at 0) 128 l)
 
 -- `more`, where the number at `at` goes on with what was read past its first byte
-abbrev pub more_at : (at b : ℕ) → GapRead → GapRead
-more_at at b (Gap v p) = cond (eqb v 0) (NoGap at) (Gap (b % 128 + 128 * v) p)
-more_at at b (NoGap p) = NoGap at
+abbrev pub more_at : (at b : ℕ) → Result (ℕ × ℕ) ℕ → Result (ℕ × ℕ) ℕ
+more_at at b (Ok (v, p)) = cond (eqb v 0) (Err at) (Ok (b % 128 + 128 * v, p))
+more_at at b (Err p) = Err at
 
-past_more : (b at : ℕ) (r : Read ℕ) → gap_past at (more b r) ≡ more_at at b (gap_past (at + 1) r)
+past_more : (b at : ℕ) (r : Read ℕ) → read_past at (more b r) ≡ more_at at b (read_past (at + 1) r)
 unfolding more
 past_more b at (stopped k) = rw add-zero
 past_more b at (got v k) =
-    split (eqb v 0) (λ e. rw (e, add-zero)) (λ e. rw e (ap (λ (p : ℕ). Gap (b % 128 + 128 * v) p) (omega arith)))
+    split (eqb v 0) (λ e. rw (e, add-zero)) (λ e. rw e (ap (λ (p : ℕ). Ok (b % 128 + 128 * v, p)) (omega arith)))
 
 pub gap_more : (n : ℕ) (s : List ℕ) (at : ℕ) → (n ≡ 0 → ⊥) → at < length s → 128 ≤ get_or s at 0 → gap_at n s at ≡ more_at at (get_or s at 0) (gap_at (n - 1) s (at + 1))
 unfolding gap_at gap
@@ -55,9 +54,9 @@ gap_more (suc n) s at z h l =
 -- ---- the same, byte after byte
 
 -- the number at `at`, where its bytes before `i` are worth v, and a one of what is read at `i` is worth `unit`
-abbrev pub whole_at : (at i v unit : ℕ) → GapRead → GapRead
-whole_at at i v unit (Gap w p) = cond (eqb w 0 && ltb at i) (NoGap at) (Gap (v + unit * w) p)
-whole_at at i v unit (NoGap p) = NoGap at
+abbrev pub whole_at : (at i v unit : ℕ) → Result (ℕ × ℕ) ℕ → Result (ℕ × ℕ) ℕ
+whole_at at i v unit (Ok (w, p)) = cond (eqb w 0 && ltb at i) (Err at) (Ok (v + unit * w, p))
+whole_at at i v unit (Err p) = Err at
 
 -- what does not read as a number is at fault where it begins
 abbrev AtFront : Read ℕ → Type 0
@@ -79,20 +78,20 @@ pub whole-start : (n : ℕ) (s : List ℕ) (at : ℕ) → gap_at n s at ≡ whol
 unfolding gap_at
 whole-start n s at = go (gap n (drop at s)) (at_front n (drop at s))
   where
-    go : (r : Read ℕ) → AtFront r → gap_past at r ≡ whole_at at at 0 1 (gap_past at r)
-    go (got v k) f = rw (le-ltb at at (omega arith), and-false) (ap (λ (w : ℕ). Gap w (at + k)) (omega arith))
+    go : (r : Read ℕ) → AtFront r → read_past at r ≡ whole_at at at 0 1 (read_past at r)
+    go (got v k) f = rw (le-ltb at at (omega arith), and-false) (ap (λ (w : ℕ). Ok (w, at + k)) (omega arith))
     go (stopped k) f = rw (f, add-zero)
 
 -- a byte of seven low bits counts `unit` times, and what is past it 128 times as much
-whole_byte : (at i v unit b : ℕ) (r : GapRead) → at ≤ i → whole_at at i v unit (more_at i b r) ≡ whole_at at (i + 1) (v + unit * (b % 128)) (unit * 128) r
-whole_byte at i v unit b (NoGap p) h = refl
-whole_byte at i v unit b (Gap w p) h =
+whole_byte : (at i v unit b : ℕ) (r : Result (ℕ × ℕ) ℕ) → at ≤ i → whole_at at i v unit (more_at i b r) ≡ whole_at at (i + 1) (v + unit * (b % 128)) (unit * 128) r
+whole_byte at i v unit b (Err p) h = refl
+whole_byte at i v unit b (Ok (w, p)) h =
     split (eqb w 0)
     (λ e. rw (e, lt-ltb at (i + 1) (omega arith)))
     (λ e.
     let z : (w ≡ 0 → ⊥) = eqb-false w 0 e in
     rw (e, ne_eqb (b % 128 + 128 * w) 0 (λ f. z (omega arith)))
-    (ap (λ (x : ℕ). Gap x p) (omega (arith, mul-add unit (b % 128) (128 * w), mul_assoc unit 128 w))))
+    (ap (λ (x : ℕ). Ok (x, p)) (omega (arith, mul-add unit (b % 128) (128 * w), mul_assoc unit 128 w))))
 
 pub whole-more : (at i v unit n : ℕ) (s : List ℕ) → at ≤ i → 0 < n → i < length s → 128 ≤ get_or s i 0
     → whole_at at i v unit (gap_at n s i) ≡ whole_at at (i + 1) (v + unit * (get_or s i 0 % 128)) (unit * 128) (gap_at (n - 1) s (i + 1))
@@ -119,69 +118,65 @@ small (suc n) (b ∷ s) =
     (split (ltb b 128) (λ e. rw e (omega (arith, ltb-true b 128 e, one-le-pow n 128 (omega arith)))) (λ e. rw e ih))
 
 -- a number of at most m bytes is below 128 to the m
-pub gap_below : (n m : ℕ) (s : List ℕ) (at v k : ℕ) → n ≤ m → gap_at n s at ≡ Gap v k → v < 128 ^ m
+pub gap_below : (n m : ℕ) (s : List ℕ) (at v k : ℕ) → n ≤ m → gap_at n s at ≡ Ok (v, k) → v < 128 ^ m
 unfolding gap_at
 gap_below n m s at v k le e =
     lt_of_lt_of_le (rw e at (past (gap n (drop at s)) (small n (drop at s)))) (pow-le-pow_right (omega arith) le)
   where
-    At : GapRead → Type 0
-    At (Gap v k) = v < 128 ^ n
-    At (NoGap p) = Unit {0}
+    At : Result (ℕ × ℕ) ℕ → Type 0
+    At (Ok (v, k)) = v < 128 ^ n
+    At (Err p) = Unit {0}
 
-    past : (r : Read ℕ) → Small (128 ^ n) r → At (gap_past at r)
+    past : (r : Read ℕ) → Small (128 ^ n) r → At (read_past at r)
     past (got v k) h = h
     past (stopped k) h = tt
 
 -- ---- the score at a place
 
 module _ (s : List ℕ) (at : ℕ) where
-  pub score-short : length s < at + 2 → score_at s at ≡ NoScore at
+  pub score-short : length s < at + 2 → score_at s at ≡ Err at
   unfolding score_at score
   score-short h = rw (length-drop at s, lt-leb 2 (length s - at) (omega arith), add-zero)
 
-  pub score-zero : at + 2 ≤ length s → num 2 (drop at s) ≡ 0 → score_at s at ≡ NoScore at
+  pub score-zero : at + 2 ≤ length s → num 2 (drop at s) ≡ 0 → score_at s at ≡ Err at
   unfolding score_at score
   score-zero h e = rw (length-drop at s, le-leb 2 (length s - at) (omega arith), le-ltb 0 (num 2 (drop at s)) (omega arith), add-zero)
 
-  pub score-there : at + 2 ≤ length s → (num 2 (drop at s) ≡ 0 → ⊥) → score_at s at ≡ Score (num 2 (drop at s)) (at + 2)
+  pub score-there : at + 2 ≤ length s → (num 2 (drop at s) ≡ 0 → ⊥) → score_at s at ≡ Ok (num 2 (drop at s), at + 2)
   unfolding score_at score
   score-there h z = rw (length-drop at s, le-leb 2 (length s - at) (omega arith), lt-ltb 0 (num 2 (drop at s)) (omega arith))
 
 -- ---- from what the code found back to what was read
 
-module _ (n : ℕ) (s : List ℕ) (at : ℕ) where
-  pub gap-got : (v p : ℕ) → gap_at n s at ≡ Gap v p → (k : ℕ) × (gap n (drop at s) ≡ got v k) × (p ≡ at + k)
-  unfolding gap_at
-  gap-got v p e = go (gap n (drop at s)) e
-    where
-      go : (r : Read ℕ) → gap_past at r ≡ Gap v p → (k : ℕ) × (r ≡ got v k) × (p ≡ at + k)
-      go (got w k) q = let a : w ≡ v = cc in let b : at + k ≡ p = cc in (k, rw a, sym b)
-      go (stopped k) q = let z : ◌≡◌ {A = ℕ} 0 1 = cc in absurd (omega arith)
+past-got : (at : ℕ) (r : Read ℕ) (v p : ℕ) → read_past at r ≡ Ok (v, p) → (k : ℕ) × (r ≡ got v k) × (p ≡ at + k)
+past-got at (got w k) v p q =
+    let e : (w, at + k) ≡ (v, p) = cc in
+    let a : w ≡ v = ap (λ (x : ℕ × ℕ). x.0) e in
+    let b : at + k ≡ p = ap (λ (x : ℕ × ℕ). x.1) e in
+    (k, rw a, sym b)
+past-got at (stopped k) v p q = let z : ◌≡◌ {A = ℕ} 0 1 = cc in absurd (omega arith)
 
-  pub gap-not : (p : ℕ) → gap_at n s at ≡ NoGap p → (k : ℕ) × (gap n (drop at s) ≡ stopped k) × (p ≡ at + k)
+past-not : (at : ℕ) (r : Read ℕ) (p : ℕ) → read_past at r ≡ Err p → (k : ℕ) × (r ≡ stopped k) × (p ≡ at + k)
+past-not at (got w k) p q = let z : ◌≡◌ {A = ℕ} 0 1 = cc in absurd (omega arith)
+past-not at (stopped k) p q = let b : at + k ≡ p = cc in (k, refl, sym b)
+
+module _ (n : ℕ) (s : List ℕ) (at : ℕ) where
+  pub gap-got : (v p : ℕ) → gap_at n s at ≡ Ok (v, p) → (k : ℕ) × (gap n (drop at s) ≡ got v k) × (p ≡ at + k)
   unfolding gap_at
-  gap-not p e = go (gap n (drop at s)) e
-    where
-      go : (r : Read ℕ) → gap_past at r ≡ NoGap p → (k : ℕ) × (r ≡ stopped k) × (p ≡ at + k)
-      go (got w k) q = let z : ◌≡◌ {A = ℕ} 0 1 = cc in absurd (omega arith)
-      go (stopped k) q = let b : at + k ≡ p = cc in (k, refl, sym b)
+  gap-got v p e = past-got at (gap n (drop at s)) v p e
+
+  pub gap-not : (p : ℕ) → gap_at n s at ≡ Err p → (k : ℕ) × (gap n (drop at s) ≡ stopped k) × (p ≡ at + k)
+  unfolding gap_at
+  gap-not p e = past-not at (gap n (drop at s)) p e
 
 module _ (s : List ℕ) (at : ℕ) where
-  pub score-got : (v p : ℕ) → score_at s at ≡ Score v p → (k : ℕ) × (score (drop at s) ≡ got v k) × (p ≡ at + k)
+  pub score-got : (v p : ℕ) → score_at s at ≡ Ok (v, p) → (k : ℕ) × (score (drop at s) ≡ got v k) × (p ≡ at + k)
   unfolding score_at
-  score-got v p e = go (score (drop at s)) e
-    where
-      go : (r : Read ℕ) → score_past at r ≡ Score v p → (k : ℕ) × (r ≡ got v k) × (p ≡ at + k)
-      go (got w k) q = let a : w ≡ v = cc in let b : at + k ≡ p = cc in (k, rw a, sym b)
-      go (stopped k) q = let z : ◌≡◌ {A = ℕ} 0 1 = cc in absurd (omega arith)
+  score-got v p e = past-got at (score (drop at s)) v p e
 
-  pub score-not : (p : ℕ) → score_at s at ≡ NoScore p → (k : ℕ) × (score (drop at s) ≡ stopped k) × (p ≡ at + k)
+  pub score-not : (p : ℕ) → score_at s at ≡ Err p → (k : ℕ) × (score (drop at s) ≡ stopped k) × (p ≡ at + k)
   unfolding score_at
-  score-not p e = go (score (drop at s)) e
-    where
-      go : (r : Read ℕ) → score_past at r ≡ NoScore p → (k : ℕ) × (r ≡ stopped k) × (p ≡ at + k)
-      go (got w k) q = let z : ◌≡◌ {A = ℕ} 0 1 = cc in absurd (omega arith)
-      go (stopped k) q = let b : at + k ≡ p = cc in (k, refl, sym b)
+  score-not p e = past-not at (score (drop at s)) p e
 
 -- ---- the bytes of a gap number
 

@@ -1,8 +1,8 @@
 -- "Every field is a one-byte tag, a two-byte length and the value." Assumes nothing.
 use Rattle.std.specs.Prelude.{ℕ, ◌+◌, List, ◌∷◌, ◌++◌, Bool, cond, ◌&&◌, leb, eqb, length, get_or, take, drop}
 use Rattle.wire.specs.Number.{num, be}
-use Rattle.wire.specs.declared.field.FieldRead.{FieldRead}
-use Rattle.wire.specs.declared.field.FieldRead.TheVariants.{Whole, Missing}
+use Rattle.std.specs.Prelude.{Option}
+use Rattle.std.specs.Prelude.{Some, None}
 
 -- what the two bytes past the tag say
 unfoldable pub field_len : List ℕ → ℕ
@@ -19,5 +19,5 @@ unfoldable pub field_bytes : ℕ → List ℕ → List ℕ
 field_bytes t v = (t ∷ be 2 (length v)) ++ v
 
 -- the field at a place
-unfoldable pub field_at : ℕ → List ℕ → ℕ → FieldRead
-field_at t s at = cond (whole t (drop at s)) (Whole (field_len (drop at s))) Missing
+unfoldable pub field_at : ℕ → List ℕ → ℕ → Option ℕ
+field_at t s at = cond (whole t (drop at s)) (Some (field_len (drop at s))) None

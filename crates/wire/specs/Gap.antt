@@ -2,10 +2,8 @@
 use Rattle.std.specs.Prelude.{ℕ, zero, suc, ◌+◌, ◌*◌, ◌/◌, ◌%◌, List, [], ◌∷◌, cond, ◌&&◌, leb, ltb, eqb, length, drop}
 use Rattle.wire.specs.Read.{Read, got, stopped}
 use Rattle.wire.specs.Number.{num}
-use Rattle.wire.specs.declared.gap.GapRead.{GapRead}
-use Rattle.wire.specs.declared.gap.GapRead.TheVariants.{Gap, NoGap}
-use Rattle.wire.specs.declared.gap.ScoreRead.{ScoreRead}
-use Rattle.wire.specs.declared.gap.ScoreRead.TheVariants.{Score, NoScore}
+use Rattle.std.specs.Prelude.{Result}
+use Rattle.std.specs.Prelude.{Ok, Err}
 
 -- a byte of seven low bits in front of a number, which is not 0: "no zero last byte unless it is the only one"
 unfoldable pub more : ℕ → Read ℕ → Read ℕ
@@ -32,16 +30,12 @@ unfoldable pub score : List ℕ → Read ℕ
 score s = cond (leb 2 (length s) && ltb 0 (num 2 s)) (got (num 2 s) 2) (stopped 0)
 
 -- what reading at a place gives: the number and the place past it; or the place of what is at fault
-abbrev pub gap_past : ℕ → Read ℕ → GapRead
-gap_past at (got v k) = Gap v (at + k)
-gap_past at (stopped k) = NoGap (at + k)
+abbrev pub read_past : ℕ → Read ℕ → Result (ℕ × ℕ) ℕ
+read_past at (got v k) = Ok (v, at + k)
+read_past at (stopped k) = Err (at + k)
 
-abbrev pub score_past : ℕ → Read ℕ → ScoreRead
-score_past at (got v k) = Score v (at + k)
-score_past at (stopped k) = NoScore (at + k)
+unfoldable pub gap_at : (most : ℕ) → List ℕ → ℕ → Result (ℕ × ℕ) ℕ
+gap_at most s at = read_past at (gap most (drop at s))
 
-unfoldable pub gap_at : (most : ℕ) → List ℕ → ℕ → GapRead
-gap_at most s at = gap_past at (gap most (drop at s))
-
-unfoldable pub score_at : List ℕ → ℕ → ScoreRead
-score_at s at = score_past at (score (drop at s))
+unfoldable pub score_at : List ℕ → ℕ → Result (ℕ × ℕ) ℕ
+score_at s at = read_past at (score (drop at s))

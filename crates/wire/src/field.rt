@@ -4,32 +4,26 @@ ghost use Rattle.model.specs.Runs.{Stored};
 ghost use Rattle.wire.specs.Number.{be};
 ghost use Rattle.wire.specs.Field.{field_at};
 
-// A whole field with the length of its value; or there is none of the tag asked for.
-#[derive(Drop)]
-pub enum FieldRead {
-    Whole(usize),
-    Missing,
-}
-
-pub fn field(s: &[u8], at: usize, tag: u8) -> FieldRead
+// The length of the value of the whole field at a place, if one of the tag asked for stands there.
+pub fn field(s: &[u8], at: usize, tag: u8) -> Option<usize>
     ensures { result ≡ field_at tag s.now at }
 {
     let n = s.len();
     if n < at {
-        return FieldRead::Missing;
+        return None;
     }
     let left = n - at;
     if left < 3 {
-        return FieldRead::Missing;
+        return None;
     }
     if s[at] != tag {
-        return FieldRead::Missing;
+        return None;
     }
     let len = crate::number::be2(s, at + 1) as usize;
     if left < 3 + len {
-        return FieldRead::Missing;
+        return None;
     }
-    FieldRead::Whole(len)
+    Some(len)
 }
 
 // A field's tag and length, stored at a place that has room; gives the place past them.

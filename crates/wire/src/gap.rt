@@ -1,80 +1,64 @@
-// The two numbers of a body: the gap number and the score.
+// The two numbers of a body: the gap number and the score. What reads gives the number and the place past it; what does not, the place where it begins.
 ghost use Rattle.std.specs.Prelude.{◌≡◌, ◌+◌, ◌≤◌, ◌<◌, ◌^◌, length};
 ghost use Rattle.model.specs.Runs.{Stored};
 ghost use Rattle.wire.specs.Gap.{gap_at, score_at, gap_bytes};
 
-// A gap number and the place past it; or none stands there, and the place where what stands there begins.
-#[derive(Drop)]
-pub enum GapRead {
-    Gap(u64, usize),
-    NoGap(usize),
-}
-
-// A score of 1 or more and the place past it; or none stands there, and the place where what stands there begins.
-#[derive(Drop)]
-pub enum ScoreRead {
-    Score(u16, usize),
-    NoScore(usize),
-}
-
 // The gap number at a place, in at most `most` bytes. Most gaps are one byte, which is read here without a call.
-pub fn gap(s: &[u8], at: usize, most: u8) -> GapRead
+pub fn gap(s: &[u8], at: usize, most: u8) -> Result<(u64, usize), usize>
     requires { (0 < most) × (most ≤ 5) }
     ensures { result ≡ gap_at most s.now at }
 {
     if s.len() <= at {
-        return GapRead::NoGap(at);
+        return Err(at);
     }
     let b = s[at] as u64;
     if b < 128 {
-        return GapRead::Gap(b, at + 1);
+        return Ok((b, at + 1));
     }
     gap_in(s, at, most)
 }
 
 // The same, byte after byte: `v` is what the bytes before `i` are worth, `unit` what a one at `i` is worth.
-fn gap_in(s: &[u8], at: usize, most: u8) -> GapRead
+fn gap_in(s: &[u8], at: usize, most: u8) -> Result<(u64, usize), usize>
     requires { most ≤ 5 }
     ensures { result ≡ gap_at most s.now at }
 {
     let mut v: u64 = 0;
     let mut unit: u64 = 1;
     let mut i = at;
-    let mut left = most;
-    while 0 < left {
+    for turn in 0..most {
         if s.len() <= i {
-            return GapRead::NoGap(at);
+            return Err(at);
         }
         let b = s[i] as u64;
         if b < 128 {
             if (b == 0) & (at < i) {
-                return GapRead::NoGap(at);
+                return Err(at);
             }
-            return GapRead::Gap(v + unit * b, i + 1);
+            return Ok((v + unit * b, i + 1));
         }
         v += unit * (b % 128);
         unit *= 128;
         i += 1;
-        left -= 1;
     }
-    GapRead::NoGap(at)
+    Err(at)
 }
 
-pub fn score(s: &[u8], at: usize) -> ScoreRead
+pub fn score(s: &[u8], at: usize) -> Result<(u16, usize), usize>
     ensures { result ≡ score_at s.now at }
 {
     let n = s.len();
     if n < at {
-        return ScoreRead::NoScore(at);
+        return Err(at);
     }
     if n - at < 2 {
-        return ScoreRead::NoScore(at);
+        return Err(at);
     }
     let points = crate::number::be2(s, at);
     if points == 0 {
-        ScoreRead::NoScore(at)
+        Err(at)
     } else {
-        ScoreRead::Score(points, at + 2)
+        Ok((points, at + 2))
     }
 }
 

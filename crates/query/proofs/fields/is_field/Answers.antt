@@ -1,18 +1,18 @@
 -- `query::fields::is_field` meets its contract: each return is a law of `Parts` at what the call found. Assumes nothing.
 use mathlib.Core.Path.{◌≡◌, sym}
 use Rattle.wire.specs.Field.{field_at}
-use Rattle.wire.specs.declared.field.FieldRead.TheVariants.{Whole, Missing}
+use Rattle.std.specs.Prelude.{Some, None}
 use Rattle.query.proofs.Parts.{is-field-whole, is-field_missing}
 use Rattle.query.proofs.fields.is_field.Goals as goal
 
-pub returns-in-Whole : goal.returns-in-Whole
-returns-in-Whole c =
+pub returns-in-Some : goal.returns-in-Some
+returns-in-Some c =
     let a = c.args in
-    let f : field_at a.tag a.q.now a.at ≡ Whole c.in-Whole.n = cc in
-    sym (is-field-whole a.tag a.len a.q.now a.at c.in-Whole.n f)
+    let f : field_at a.tag a.q.now a.at ≡ Some c.in-Some.n = cc in
+    sym (is-field-whole a.tag a.len a.q.now a.at c.in-Some.n f)
 
-pub returns-in-Missing : goal.returns-in-Missing
-returns-in-Missing c =
+pub returns-in-None : goal.returns-in-None
+returns-in-None c =
     let a = c.args in
-    let f : field_at a.tag a.q.now a.at ≡ Missing = cc in
+    let f : field_at a.tag a.q.now a.at ≡ None = cc in
     sym (is-field_missing a.tag a.len a.q.now a.at f)

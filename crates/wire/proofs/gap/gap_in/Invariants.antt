@@ -9,8 +9,5 @@ use Rattle.wire.proofs.gap.gap_in.Given as goal
 abbrev pub Placed : (at most i left v unit : ℕ) → Type 0
 Placed at most i left v unit = (at ≤ i) × (i - at + left ≡ most) × (unit ≡ 128 ^ (i - at)) × (v < unit)
 
-abbrev pub invariant-loop-left : goal.invariant-loop-left
-invariant-loop-left l = Placed l.at l.most l.i l.left l.v l.unit × (gap_at l.most l.s l.at ≡ whole_at l.at l.i l.v l.unit (gap_at l.left l.s l.i))
-
-abbrev pub decreases-loop-left : goal.decreases-loop-left
-decreases-loop-left l = l.left
+abbrev pub invariant-loop-turn : goal.invariant-loop-turn
+invariant-loop-turn l = Placed l.at l.most l.i (l.most - l.turn) l.v l.unit × (gap_at l.most l.s l.at ≡ whole_at l.at l.i l.v l.unit (gap_at (l.most - l.turn) l.s l.i))
