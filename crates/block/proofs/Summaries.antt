@@ -19,22 +19,22 @@ use Rattle.wire.proofs.Numbers.{num-be, be-length}
 use Rattle.wire.proofs.Fields.{field_is, field-not, whole-size, whole_round, len_round, head-drop, field-size}
 use Rattle.block.specs.Summary.{is_sum, sum_of, sum_bytes, sum_at, right_sum, summary_of}
 use Rattle.block.specs.declared.summary.Summary.{Summary}
-use Rattle.block.specs.declared.summary.SummaryRead.TheVariants.{Sum, NoSum}
+use Rattle.std.specs.Prelude.{Some, None}
 
 -- ---- at a place
 
 module _ (s : List ℕ) (at : ℕ) where
-  pub sum-none : field_at 2 s at ≡ None → sum_at s at ≡ NoSum
+  pub sum-none : field_at 2 s at ≡ None → sum_at s at ≡ None
   unfolding sum_at is_sum
   sum-none e = rw (field-not 2 s at e)
 
-  pub sum-other : (n : ℕ) → field_at 2 s at ≡ Some n → (n ≡ 9 → ⊥) → sum_at s at ≡ NoSum
+  pub sum-other : (n : ℕ) → field_at 2 s at ≡ Some n → (n ≡ 9 → ⊥) → sum_at s at ≡ None
   unfolding sum_at is_sum
   sum-other n e z =
       let i = field_is 2 s at n e in
       rw (i.0, i.1, ne_eqb n 9 z)
 
-  pub sum-there : (n : ℕ) → field_at 2 s at ≡ Some n → n ≡ 9 → sum_at s at ≡ Sum (sum_of false (drop at s))
+  pub sum-there : (n : ℕ) → field_at 2 s at ≡ Some n → n ≡ 9 → sum_at s at ≡ Some (sum_of false (drop at s))
   unfolding sum_at is_sum
   sum-there n e q =
       let i = field_is 2 s at n e in
@@ -46,18 +46,18 @@ module _ (s : List ℕ) (at : ℕ) where
   sum-numbers strip = rw (drop-drop 3 at s, drop-drop 6 at s, drop-drop 9 at s, drop-drop 11 at s)
 
   -- from what the code found back to what was read
-  pub sum-found : (m : Summary) → sum_at s at ≡ Sum m → (is_sum (drop at s) ≡ true) × (sum_of false (drop at s) ≡ m)
+  pub sum-found : (m : Summary) → sum_at s at ≡ Some m → (is_sum (drop at s) ≡ true) × (sum_of false (drop at s) ≡ m)
   unfolding sum_at
   sum-found m e =
       split (is_sum (drop at s))
-      (λ w. let q : Sum (sum_of false (drop at s)) ≡ Sum m = rw w at e in (w, (cc)))
-      (λ w. let q : NoSum ≡ Sum m = rw w at e in let z : ◌≡◌ {A = ℕ} 0 1 = cc in absurd (omega arith))
+      (λ w. let q : Some (sum_of false (drop at s)) ≡ Some m = rw w at e in (w, (cc)))
+      (λ w. let q : None ≡ Some m = rw w at e in let z : ◌≡◌ {A = ℕ} 0 1 = cc in absurd (omega arith))
 
-  pub sum_missing : sum_at s at ≡ NoSum → is_sum (drop at s) ≡ false
+  pub sum_missing : sum_at s at ≡ None → is_sum (drop at s) ≡ false
   unfolding sum_at
   sum_missing e =
       split (is_sum (drop at s))
-      (λ w. let q : Sum (sum_of false (drop at s)) ≡ NoSum = rw w at e in let z : ◌≡◌ {A = ℕ} 0 1 = cc in absurd (omega arith))
+      (λ w. let q : Some (sum_of false (drop at s)) ≡ None = rw w at e in let z : ◌≡◌ {A = ℕ} 0 1 = cc in absurd (omega arith))
       (λ w. w)
 
 pub sum_room : (s : List ℕ) → is_sum s ≡ true → 12 ≤ length s

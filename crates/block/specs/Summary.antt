@@ -5,8 +5,8 @@ use Rattle.model.specs.Post.{Post, last_doc, top_score}
 use Rattle.wire.specs.Number.{num, be}
 use Rattle.wire.specs.Field.{whole, field_len, field_bytes}
 use Rattle.block.specs.declared.summary.Summary.{Summary}
-use Rattle.block.specs.declared.summary.SummaryRead.{SummaryRead}
-use Rattle.block.specs.declared.summary.SummaryRead.TheVariants.{Sum, NoSum}
+use Rattle.std.specs.Prelude.{Option}
+use Rattle.std.specs.Prelude.{Some, None}
 
 -- the bytes begin with a field that has the form of a summary
 unfoldable pub is_sum : List ℕ → Bool
@@ -20,8 +20,8 @@ unfoldable pub sum_bytes : Summary → List ℕ
 sum_bytes m = field_bytes 2 (be 3 m.least ++ (be 3 m.greatest ++ (be 2 m.top ++ be 1 m.count)))
 
 -- the summary at a place, for the walk, which looks at its numbers alone
-unfoldable pub sum_at : List ℕ → ℕ → SummaryRead
-sum_at s at = cond (is_sum (drop at s)) (Sum (sum_of false (drop at s))) NoSum
+unfoldable pub sum_at : List ℕ → ℕ → Option Summary
+sum_at s at = cond (is_sum (drop at s)) (Some (sum_of false (drop at s))) None
 
 -- "A summary is wrong if least is 0 or above greatest, greatest score is 0, count is not 1 to 100 or exceeds greatest - least + 1,
 -- count is 1 while least and greatest differ, or least is not above the previous block's greatest." Before a list's first block that is 0,

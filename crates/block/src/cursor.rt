@@ -5,7 +5,6 @@ ghost use Rattle.block.specs.Cursor.{fresh, past, moved, step_at, scored_at};
 ghost use Rattle.block.specs.declared.cursor.Step.TheVariants.{Posting};
 
 use crate::summary::Summary;
-use wire::gap::{GapRead, ScoreRead};
 
 // A reading place in a body: where the next gap number starts in the first run, where a strip's next score starts in the second, the docid
 // before the next posting (before the first: the first's own), the block's greatest docid, how many postings are left, whether the first is
@@ -62,14 +61,14 @@ impl Cursor {
             return scored(gaps, points, at_posting(self, at, doc));
         }
         match wire::gap::gap(gaps, at, model::GAP_MOST) {
-            GapRead::Gap(g, past) => {
+            Ok((g, past)) => {
                 let d = (doc as u64) + 1 + g;
                 if (self.greatest as u64) < d {
                     return Step::Bad;
                 }
                 scored(gaps, points, at_posting(self, past, d as u32))
             }
-            GapRead::NoGap(fault) => Step::Bad,
+            Err(fault) => Step::Bad,
         }
     }
 }
@@ -96,13 +95,13 @@ fn scored(gaps: &[u8], points: &[u8], c: Cursor) -> Step
 {
     if c.strip {
         return match wire::gap::score(points, c.points) {
-            ScoreRead::Score(w, past) => past_score(c, w, c.at, past),
-            ScoreRead::NoScore(fault) => Step::Bad,
+            Ok((w, past)) => past_score(c, w, c.at, past),
+            Err(fault) => Step::Bad,
         };
     }
     match wire::gap::score(gaps, c.at) {
-        ScoreRead::Score(w, past) => past_score(c, w, past, c.points),
-        ScoreRead::NoScore(fault) => Step::Bad,
+        Ok((w, past)) => past_score(c, w, past, c.points),
+        Err(fault) => Step::Bad,
     }
 }
 

@@ -4,8 +4,6 @@ ghost use Rattle.model.specs.Post.{postings, max_from};
 ghost use Rattle.model.specs.Runs.{Stored};
 ghost use Rattle.block.specs.Summary.{sum_at, sum_of, right_sum, sum_bytes, summary_of};
 
-use wire::field::FieldRead;
-
 // ---- reading
 
 // What is known of a block before its body is read: the four numbers of its summary; and whether its body is a strip (tag 04), which the
@@ -19,26 +17,15 @@ pub struct Summary {
     pub strip: bool,
 }
 
-// A summary; or no field of its form stands there.
-#[derive(Drop)]
-pub enum SummaryRead {
-    Sum(Summary),
-    NoSum,
-}
-
-// The walk's: it judges the numbers, whatever the layout.
-pub fn summary_at(s: &[u8], at: usize) -> SummaryRead
+// The summary at a place, if a field of its form stands there. It is the walk's, which judges the numbers, whatever the layout.
+pub fn summary_at(s: &[u8], at: usize) -> Option<Summary>
     ensures { result ≡ sum_at s.now at }
 {
-    match wire::field::field(s, at, 2) {
-        FieldRead::Whole(n) => {
-            if n != 9 {
-                return SummaryRead::NoSum;
-            }
-            SummaryRead::Sum(summary_in(s, at, false))
-        }
-        FieldRead::Missing => SummaryRead::NoSum,
+    let n = wire::field::field(s, at, 2)?;
+    if n != 9 {
+        return None;
     }
+    Some(summary_in(s, at, false))
 }
 
 // The numbers of a summary that is known to stand there, and the layout that the body's tag says.
