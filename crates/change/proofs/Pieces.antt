@@ -15,7 +15,7 @@ use Rattle.model.specs.Runs.{Bytes}
 use Rattle.model.proofs.Lists.{split, bytes_drop, rest-none}
 use Rattle.shelf.specs.Walk.{Listing, list, onto, lists, walk, posts_of, strip_of}
 use Rattle.shelf.specs.Check.{bad_body, bad_lists, checked, judged}
-use Rattle.shelf.specs.declared.check.BadRead.TheVariants.{NoBad}
+use Rattle.std.specs.Prelude.{None}
 use Rattle.shelf.proofs.Walks.{list-walked, lists-none, lists_full, lists-step, lists-stop}
 use Rattle.shelf.proofs.Sounds.{or_none, sound-walk}
 use Rattle.lookup.proofs.Stands.{walk-size, walk-lists}
@@ -41,7 +41,7 @@ pub anew_stands : (strip : Bool) (t : ℕ) (ps : List Post) → t < 2 ^ 32 → W
 anew_stands strip t ps small w = record { stands = packed_stands strip t ps small w; small = small; may = w }
 
 -- the pieces of a sound shelf
-kept_stands : (floor at : ℕ) (s : List ℕ) (l : Listing) → Bytes s → list floor at (drop at s) ≡ done l → bad_body l.blocks ≡ NoBad → l.place.term < 2 ^ 32 → Writable (posts_of l.blocks) →
+kept_stands : (floor at : ℕ) (s : List ℕ) (l : Listing) → Bytes s → list floor at (drop at s) ≡ done l → bad_body l.blocks ≡ None → l.place.term < 2 ^ 32 → Writable (posts_of l.blocks) →
     Standing (piece_of s l)
 kept_stands floor at s l h e r small may =
     let here : take (l.place.next - l.place.at) (drop l.place.at s) ≡ take (l.place.next - at) (drop at s) = rw (list-walked floor at s l e).start in
@@ -110,7 +110,7 @@ pieces-joined n floor at s (l ∷ ms) e =
     let past : drop k (drop at s) ≡ drop l.place.next s = rw (drop-drop k at s, q) in
     rw (w.start, pieces-joined (n - 1) (l.place.term + 1) l.place.next s ms i.left, ← past) (take-append-drop k (drop at s))
 
-pieces-rise : (n floor at : ℕ) (s : List ℕ) (ls : List Listing) → Bytes s → lists n floor at (drop at s) ≡ done ls → bad_lists ls ≡ NoBad → Words floor (words_of ls) → Rises floor (pieces s ls)
+pieces-rise : (n floor at : ℕ) (s : List ℕ) (ls : List Listing) → Bytes s → lists n floor at (drop at s) ≡ done ls → bad_lists ls ≡ None → Words floor (words_of ls) → Rises floor (pieces s ls)
 pieces-rise n floor at s [] h e b g = tt
 pieces-rise n floor at s (l ∷ ms) h e b g =
     let i = lists_inv n floor at s l ms e in
@@ -139,7 +139,7 @@ pieces_hold s (l ∷ ms) = ap {B = List Word} (λ ws. word_of l ∷ ws) (pieces_
 pub record Sound (s : List ℕ) (ls : List Listing) : Type 0 where
   pub short : length s ≤ max_shelf
   pub reads : lists max_lists 0 0 s ≡ done ls
-  pub right : bad_lists ls ≡ NoBad
+  pub right : bad_lists ls ≡ None
 
 pub checked-sound : (s : List ℕ) (ls : List Listing) → checked s ≡ done ls → Sound s ls
 checked-sound s ls e =
@@ -169,7 +169,7 @@ piece_is x t ps strip bs e f g h = rw (e, f, g, h)
 pub record Found (n floor at : ℕ) (s : List ℕ) (xs : List Piece) : Type 0 where
   pub found : List Listing
   pub reads : lists n floor at (drop at s) ≡ done found
-  pub right : bad_lists found ≡ NoBad
+  pub right : bad_lists found ≡ None
   pub same : pieces s found ≡ xs
 
 found_cons : (n floor at : ℕ) (s : List ℕ) (x : Piece) (xs : List Piece) → drop at s ≡ x.bytes ++ joined xs → Standing x → (r : ReadsAt x.strip x.term x.posts x.bytes floor at (joined xs)) →

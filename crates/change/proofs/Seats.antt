@@ -10,9 +10,8 @@ use lib.ListN.{length, drop}
 use Rattle.model.specs.Outcome.{done}
 use Rattle.shelf.specs.Walk.{Listing, list, lists}
 use Rattle.shelf.specs.Check.{checked}
-use Rattle.shelf.specs.Answers.{list_of}
+use Rattle.shelf.specs.Answers.{placed}
 use Rattle.shelf.specs.declared.walk.Place.{Place}
-use Rattle.shelf.specs.declared.walk.ListRead.TheVariants.{Is, Not}
 use Rattle.shelf.proofs.Walks.{list-is, list-not, list-walked}
 use Rattle.change.specs.Seat.{seat_of}
 use Rattle.change.specs.declared.seat.Seat.TheVariants.{Taken, Free}
@@ -28,7 +27,7 @@ pub record Turn (n : ℕ) (s : List ℕ) (rest : List Listing) (p : Place) : Typ
   pub place : first.place ≡ p
   pub left : lists (n - 1) (p.term + 1) p.next (drop p.next s) ≡ done more
 
-pub turn-of : (n floor at : ℕ) (s : List ℕ) (rest : List Listing) (p : Place) → lists n floor at (drop at s) ≡ done rest → at < length s → list_of (list floor at (drop at s)) ≡ Is p → Turn n s rest p
+pub turn-of : (n floor at : ℕ) (s : List ℕ) (rest : List Listing) (p : Place) → lists n floor at (drop at s) ≡ done rest → at < length s → placed (list floor at (drop at s)) ≡ done p → Turn n s rest p
 turn-of n floor at s [] p e lt q = absurd (omega (arith, lists_nil n floor at s e))
 turn-of n floor at s (l ∷ ms) p e lt q =
     let i = lists_inv n floor at s l ms e in
@@ -44,7 +43,7 @@ turn-of n floor at s (l ∷ ms) p e lt q =
     }
 
 -- the place of a list, as far as the code needs it
-pub list-onward : (floor at : ℕ) (s : List ℕ) (p : Place) → list_of (list floor at (drop at s)) ≡ Is p → (at < p.next) × (p.next ≤ length s)
+pub list-onward : (floor at : ℕ) (s : List ℕ) (p : Place) → placed (list floor at (drop at s)) ≡ done p → (at < p.next) × (p.next ≤ length s)
 list-onward floor at s p q =
     let o = list-is (list floor at (drop at s)) p q in
     let w = list-walked floor at s o.0 o.1 in
@@ -70,10 +69,10 @@ module _ (s : List ℕ) (t : ℕ) (ls : List Listing) (floor at : ℕ) (c : Seat
       go [] e q = q
       go (l ∷ ms) e q = absurd (omega (arith, (lists_inv c.most floor at s l ms e).inside))
 
-  pub seat_never : {C : Type 0} → at < length s → (k o : ℕ) → list_of (list floor at (drop at s)) ≡ Not k o → C
+  pub seat_never : {C : Type 0} → at < length s → (k o : ℕ) → placed (list floor at (drop at s)) ≡ refused k o → C
   seat_never lt k o q = absurd (not_stopped c.most floor at s c.rest c.left lt k o (list-not (list floor at (drop at s)) k o q))
 
-  module _ (p : Place) (lt : at < length s) (q : list_of (list floor at (drop at s)) ≡ Is p) where
+  module _ (p : Place) (lt : at < length s) (q : placed (list floor at (drop at s)) ≡ done p) where
     turned : (m : Turn c.most s c.rest p) → seat_of t 0 ls ≡ cond (ltb t p.term) (Free at) (cond (eqb t p.term) (Taken p) (seat_of t p.next m.more))
     turned m = sym c.same ∙ ap (λ (x : List Listing). seat_of t at x) m.is ∙ ap (λ (x : Place). cond (ltb t x.term) (Free at) (cond (eqb t x.term) (Taken x) (seat_of t x.next m.more))) m.place
 
@@ -116,10 +115,10 @@ module _ (s : List ℕ) (ls : List Listing) (floor at k : ℕ) (c : Counting s l
       go [] e q = omega arith
       go (l ∷ ms) e q = absurd (omega (arith, (lists_inv c.most floor at s l ms e).inside))
 
-  pub count-never : {C : Type 0} → at < length s → (n o : ℕ) → list_of (list floor at (drop at s)) ≡ Not n o → C
+  pub count-never : {C : Type 0} → at < length s → (n o : ℕ) → placed (list floor at (drop at s)) ≡ refused n o → C
   count-never lt n o q = absurd (not_stopped c.most floor at s c.rest c.left lt n o (list-not (list floor at (drop at s)) n o q))
 
-  pub count-on : (p : Place) → at < length s → list_of (list floor at (drop at s)) ≡ Is p → Counting s ls (p.term + 1) p.next (k + 1)
+  pub count-on : (p : Place) → at < length s → placed (list floor at (drop at s)) ≡ done p → Counting s ls (p.term + 1) p.next (k + 1)
   count-on p lt q =
       let m = turn-of c.most floor at s c.rest p c.left lt q in
       record { most = c.most - 1; rest = m.more; left = m.left; count = omega (arith, c.count, ap length m.is) }

@@ -16,7 +16,7 @@ use Rattle.block.proofs.Bodies.{body_round, right_round}
 use Rattle.block.proofs.Contents.{run-all}
 use Rattle.shelf.specs.Walk.{Block, Listing, strip_of, list, lists}
 use Rattle.shelf.specs.Check.{bad_body, bad_lists, checked}
-use Rattle.shelf.specs.declared.check.BadRead.TheVariants.{NoBad}
+use Rattle.std.specs.Prelude.{None}
 use Rattle.shelf.proofs.Walks.{list-walked}
 use Rattle.shelf.proofs.Sounds.{or_none}
 use Rattle.lookup.specs.Gather.{term_list, term_blocks}
@@ -82,7 +82,7 @@ done-same l m e = cc
 both : (a b c d : List Block) → a ≡ c → b ≡ d → AllAlike c d → AllAlike a b
 both a b c d e f w = rw (e, f) w
 
-module _ (floor at : ℕ) (s : List ℕ) (l : Listing) (h : Bytes s) (e : list floor at (drop at s) ≡ done l) (b : bad_body l.blocks ≡ NoBad) where
+module _ (floor at : ℕ) (s : List ℕ) (l : Listing) (h : Bytes s) (e : list floor at (drop at s) ≡ done l) (b : bad_body l.blocks ≡ None) where
   module _ (floor' at' : ℕ) (v r : List ℕ) (m : Listing) (f : list floor' at' (drop at' v) ≡ done m) (d : (piece_of v m).bytes ++ r ≡ drop at' v) (term : m.place.term ≡ l.place.term)
       (strip : Bool) (q : (piece_of v m).bytes ≡ blocks_bytes strip l.place.term (chunks_of l.blocks)) where
     -- it is what is written for those blocks
@@ -121,7 +121,7 @@ record First (t : ℕ) (s v : List ℕ) (l : Listing) (ls : List Listing) (m : L
   bytes : (piece_of v m).bytes ≡ blocks_bytes strip l.place.term (chunks_of l.blocks)
   rest : pieces v ms ≡ turned_pieces t s ls
 
-first : (t floor at : ℕ) (s v : List ℕ) (l : Listing) (ls : List Listing) (m : Listing) (ms : List Listing) → Bytes s → list floor at (drop at s) ≡ done l → bad_body l.blocks ≡ NoBad →
+first : (t floor at : ℕ) (s v : List ℕ) (l : Listing) (ls : List Listing) (m : Listing) (ms : List Listing) → Bytes s → list floor at (drop at s) ≡ done l → bad_body l.blocks ≡ None →
     pieces v (m ∷ ms) ≡ turned_pieces t s (l ∷ ls) → First t s v l ls m ms
 first t floor at s v l ls m ms h e b q =
     split (eqb l.place.term t)
@@ -138,7 +138,7 @@ one_of : (x : Bool) (m l m' l' : Listing) → AllAlike m.blocks l.blocks → All
 one_of true m l m' l' a b = a
 one_of false m l m' l' a b = b
 
-lists-alike : (t n floor at n' floor' at' : ℕ) (s v : List ℕ) (ls ms : List Listing) → Bytes s → lists n floor at (drop at s) ≡ done ls → bad_lists ls ≡ NoBad → lists n' floor' at' (drop at' v) ≡ done ms →
+lists-alike : (t n floor at n' floor' at' : ℕ) (s v : List ℕ) (ls ms : List Listing) → Bytes s → lists n floor at (drop at s) ≡ done ls → bad_lists ls ≡ None → lists n' floor' at' (drop at' v) ≡ done ms →
     pieces v ms ≡ turned_pieces t s ls → (u : ℕ) → AllAlike (term_blocks u ms) (term_blocks u ls)
 lists-alike t n floor at n' floor' at' s v [] [] h e b f q u = tt
 lists-alike t n floor at n' floor' at' s v [] (m ∷ ms) h e b f q u = absurd (omega (arith, ap length q))

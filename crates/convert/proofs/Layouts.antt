@@ -16,7 +16,7 @@ use Rattle.block.specs.Summary.{sum_bytes, summary_of}
 use Rattle.block.proofs.Bodies.{body-even}
 use Rattle.shelf.specs.Walk.{Block, Listing, strip_of, list}
 use Rattle.shelf.specs.Check.{bad_body}
-use Rattle.shelf.specs.declared.check.BadRead.TheVariants.{NoBad}
+use Rattle.std.specs.Prelude.{None}
 use Rattle.shelf.proofs.Walks.{list-walked}
 use Rattle.list.specs.Write.{sums_bytes, bodies_bytes, blocks_bytes}
 use Rattle.list.proofs.Writes.{blocks-size}
@@ -64,7 +64,7 @@ blocks-even a b t cs = omega (arith, blocks-size a t cs, blocks-size b t cs, bod
 
 -- ---- a list of a sound shelf
 
-module _ (floor at : ℕ) (s : List ℕ) (l : Listing) (h : Bytes s) (e : list floor at (drop at s) ≡ done l) (f : bad_body l.blocks ≡ NoBad) where
+module _ (floor at : ℕ) (s : List ℕ) (l : Listing) (h : Bytes s) (e : list floor at (drop at s) ≡ done l) (f : bad_body l.blocks ≡ None) where
   pub list_reads : Reads floor at (drop at s) l
   list_reads = list-only floor at (drop at s) l (bytes_drop at s h) e f
 

@@ -16,7 +16,7 @@ use Rattle.block.specs.Body.{body_bytes}
 use Rattle.block.proofs.Bodies.{body_round}
 use Rattle.shelf.specs.Walk.{Listing, strip_of, list, lists}
 use Rattle.shelf.specs.Check.{bad_body, bad_lists, checked}
-use Rattle.shelf.specs.declared.check.BadRead.TheVariants.{NoBad}
+use Rattle.std.specs.Prelude.{None}
 use Rattle.shelf.proofs.Sounds.{or_none}
 use Rattle.list.specs.Write.{packed, bodies_bytes, blocks_bytes, list_bytes, Word, writing, Words}
 use Rattle.list.proofs.Writes.{Fines, blocks_for, blocks-size, written, writable_fine, written-strip, written_from, list-bytes, written-sound}
@@ -105,7 +105,7 @@ not-not true = refl
 not-not false = refl
 
 -- a list that reads where a turned list stands is that list, so that turned it has the bytes of the first
-turned_back : (floor at floor' at' : ℕ) (s v r : List ℕ) (l m : Listing) → Bytes s → list floor at (drop at s) ≡ done l → bad_body l.blocks ≡ NoBad → list floor' at' (drop at' v) ≡ done m →
+turned_back : (floor at floor' at' : ℕ) (s v r : List ℕ) (l m : Listing) → Bytes s → list floor at (drop at s) ≡ done l → bad_body l.blocks ≡ None → list floor' at' (drop at' v) ≡ done m →
     (piece_of v m).bytes ++ r ≡ drop at' v → piece_of v m ≡ turned l → (turned m).bytes ≡ (piece_of s l).bytes
 turned_back floor at floor' at' s v r l m h e b f d q =
     let strip = strip_of l.blocks in
@@ -121,7 +121,7 @@ turned_back floor at floor' at' s v r l m h e b f d q =
     ∙ ap (λ (ds : List (List Post)). blocks_bytes strip t ds) blocks ∙ sym (own-bytes floor at s l h e b)
 
 module _ (t : ℕ) where
-  twice : (n floor at n' floor' at' : ℕ) (s v : List ℕ) (ls ms : List Listing) → Bytes s → lists n floor at (drop at s) ≡ done ls → bad_lists ls ≡ NoBad → lists n' floor' at' (drop at' v) ≡ done ms →
+  twice : (n floor at n' floor' at' : ℕ) (s v : List ℕ) (ls ms : List Listing) → Bytes s → lists n floor at (drop at s) ≡ done ls → bad_lists ls ≡ None → lists n' floor' at' (drop at' v) ≡ done ms →
       pieces v ms ≡ turned_pieces t s ls → joined (turned_pieces t v ms) ≡ joined (pieces s ls)
   twice n floor at n' floor' at' s v [] [] h e b f q = refl
   twice n floor at n' floor' at' s v [] (m ∷ ms) h e b f q = absurd (omega (arith, ap length q))

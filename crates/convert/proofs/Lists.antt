@@ -12,7 +12,7 @@ use Rattle.model.specs.Runs.{Bytes}
 use Rattle.model.proofs.Lists.{split}
 use Rattle.shelf.specs.Walk.{Listing, lists, posts_of, strip_of}
 use Rattle.shelf.specs.Check.{bad_body, bad_lists, checked}
-use Rattle.shelf.specs.declared.check.BadRead.TheVariants.{NoBad}
+use Rattle.std.specs.Prelude.{None}
 use Rattle.shelf.proofs.Sounds.{or_none}
 use Rattle.list.specs.Write.{Word, word_of, words_of}
 use Rattle.change.specs.Bytes.{piece_of, pieces, joined, contents, bytes_for}
@@ -23,7 +23,7 @@ use Rattle.convert.proofs.Layouts.{turned_stands, turned-size}
 module _ (t : ℕ) where
   -- ---- they stand
 
-  rise : (n floor at : ℕ) (s : List ℕ) (ls : List Listing) → Bytes s → lists n floor at (drop at s) ≡ done ls → bad_lists ls ≡ NoBad → Rises floor (pieces s ls) → Rises floor (turned_pieces t s ls)
+  rise : (n floor at : ℕ) (s : List ℕ) (ls : List Listing) → Bytes s → lists n floor at (drop at s) ≡ done ls → bad_lists ls ≡ None → Rises floor (pieces s ls) → Rises floor (turned_pieces t s ls)
   rise n floor at s [] h e b g = tt
   rise n floor at s (l ∷ ms) h e b g =
       let i = lists_inv n floor at s l ms e in
@@ -44,7 +44,7 @@ module _ (t : ℕ) where
 
   -- ---- they are as long
 
-  sizes : (n floor at : ℕ) (s : List ℕ) (ls : List Listing) → Bytes s → lists n floor at (drop at s) ≡ done ls → bad_lists ls ≡ NoBad → length (joined (turned_pieces t s ls)) ≡ length (joined (pieces s ls))
+  sizes : (n floor at : ℕ) (s : List ℕ) (ls : List Listing) → Bytes s → lists n floor at (drop at s) ≡ done ls → bad_lists ls ≡ None → length (joined (turned_pieces t s ls)) ≡ length (joined (pieces s ls))
   sizes n floor at s [] h e b = refl
   sizes n floor at s (l ∷ ms) h e b =
       let i = lists_inv n floor at s l ms e in

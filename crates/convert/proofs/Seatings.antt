@@ -21,7 +21,7 @@ use Rattle.shelf.specs.Walk.{Block, Listing, strip_of, lists, blocks_at}
 use Rattle.shelf.specs.Check.{bad_body, bad_lists, checked, judged}
 use Rattle.shelf.specs.Answers.{Ready}
 use Rattle.shelf.specs.declared.walk.Place.{Place}
-use Rattle.shelf.specs.declared.check.BadRead.TheVariants.{NoBad}
+use Rattle.std.specs.Prelude.{None}
 use Rattle.shelf.proofs.Walks.{list-walked}
 use Rattle.lookup.proofs.Tables.{blocks-length}
 use Rattle.shelf.proofs.Sounds.{Good, Listed, or_none, sound-good}
@@ -127,12 +127,12 @@ record Seated (s : List ℕ) (t at : ℕ) (ls : List Listing) (p : Place) : Type
   after : at ≤ p.at
   ready : Ready s p
   fit : All (λ (b : Block). Fit b.sum) (blocks_at s p.at p.count)
-  right : bad_body (blocks_at s p.at p.count) ≡ NoBad
+  right : bad_body (blocks_at s p.at p.count) ≡ None
   there : listed t ls ≡ true
   within : p.at + 8 + 12 * p.count + length (turned_bodies (blocks_at s p.at p.count)) ≤ length s
   bytes : sets (drop at s) (p.at - at + (8 + 12 * p.count)) (turned_bodies (blocks_at s p.at p.count)) ≡ joined (turned_pieces t s ls)
 
-module _ (t n floor at : ℕ) (s : List ℕ) (l : Listing) (ms : List Listing) (h : Bytes s) (e : lists n floor at (drop at s) ≡ done (l ∷ ms)) (b : bad_lists (l ∷ ms) ≡ NoBad) (g : Listed floor (l ∷ ms)) where
+module _ (t n floor at : ℕ) (s : List ℕ) (l : Listing) (ms : List Listing) (h : Bytes s) (e : lists n floor at (drop at s) ≡ done (l ∷ ms)) (b : bad_lists (l ∷ ms) ≡ None) (g : Listed floor (l ∷ ms)) where
   past : (piece_of s l).bytes ++ drop l.place.next s ≡ drop at s
   past = first_past n floor at s l ms e
 
@@ -180,7 +180,7 @@ module _ (t n floor at : ℕ) (s : List ℕ) (l : Listing) (ms : List Listing) (
         bytes = rw (far, ← past, q) (sets-right front (drop l.place.next s) (p.at - l.place.next + (8 + 12 * p.count)) v ∙ ap (λ (x : List ℕ). front ++ x) d.bytes);
       }
 
-seated : (t n floor at : ℕ) (s : List ℕ) (ls : List Listing) (p : Place) → Bytes s → lists n floor at (drop at s) ≡ done ls → bad_lists ls ≡ NoBad → Listed floor ls → seat_of t at ls ≡ Taken p → Seated s t at ls p
+seated : (t n floor at : ℕ) (s : List ℕ) (ls : List Listing) (p : Place) → Bytes s → lists n floor at (drop at s) ≡ done ls → bad_lists ls ≡ None → Listed floor ls → seat_of t at ls ≡ Taken p → Seated s t at ls p
 seated t n floor at s [] p h e b g q = let z : ◌≡◌ {A = ℕ} 0 1 = cc in absurd (omega arith)
 seated t n floor at s (l ∷ ms) p h e b g q =
     split (ltb t l.place.term)

@@ -23,7 +23,7 @@ use Rattle.shelf.specs.Walk.{Block, read_or, strip_of, one_body, bodies_of, bloc
 use Rattle.shelf.specs.Check.{bad_body}
 use Rattle.shelf.specs.Blocks.{reading_of, blocks_left, Rests, Finds}
 use Rattle.shelf.specs.declared.walk.Place.{Place}
-use Rattle.shelf.specs.declared.check.BadRead.TheVariants.{NoBad}
+use Rattle.std.specs.Prelude.{None}
 use Rattle.shelf.specs.declared.blocks.Reading.{Reading}
 use Rattle.shelf.proofs.Walks.{strip-is}
 use Rattle.shelf.proofs.Readings.{start-rests, start_left_lem}
@@ -91,7 +91,7 @@ abbrev pub Laid : Bool → ℕ → List Block → Type 0
 Laid strip j [] = Unit {0}
 Laid strip j (b ∷ bs) = (b.sum.strip ≡ strip) × (b.body_at ≡ j) × Turns b.sum b.body × Laid strip (j + (3 + length b.body)) bs
 
-laid : (strip : Bool) (n a b e : ℕ) (m s : List ℕ) → bodies_of strip n b s ≡ done e → All (λ (x : Block). Fit x.sum) (blocks_of n a m b s) → bad_body (blocks_of n a m b s) ≡ NoBad → Laid strip b (blocks_of n a m b s)
+laid : (strip : Bool) (n a b e : ℕ) (m s : List ℕ) → bodies_of strip n b s ≡ done e → All (λ (x : Block). Fit x.sum) (blocks_of n a m b s) → bad_body (blocks_of n a m b s) ≡ None → Laid strip b (blocks_of n a m b s)
 unfolding bodies_of one_body blocks_of sum_of
 laid strip zero a b e m s q f r = tt
 laid strip (suc n) a b e m s q f r =
@@ -123,7 +123,7 @@ abbrev pub TurningFrom : (s : List ℕ) (b : Reading) (out₀ out : List ℕ) (r
 TurningFrom s b out₀ out r = Turning s (strip_of (blocks_left s b)) b.body (turned_bodies (blocks_left s b)) out₀ out r
 
 start_laid : (s : List ℕ) (p : Place) → (strip : Bool) (e : ℕ) → bodies_of strip p.count (p.at + 8 + 12 * p.count) (drop (p.at + 8 + 12 * p.count) s) ≡ done e →
-    All (λ (x : Block). Fit x.sum) (blocks_at s p.at p.count) → bad_body (blocks_at s p.at p.count) ≡ NoBad → Laid strip (p.at + 8 + 12 * p.count) (blocks_at s p.at p.count)
+    All (λ (x : Block). Fit x.sum) (blocks_at s p.at p.count) → bad_body (blocks_at s p.at p.count) ≡ None → Laid strip (p.at + 8 + 12 * p.count) (blocks_at s p.at p.count)
 unfolding blocks_at
 start_laid s p strip e q f r = laid strip p.count (p.at + 8) (p.at + 8 + 12 * p.count) e (drop (p.at + 8) s) (drop (p.at + 8 + 12 * p.count) s) q f r
 

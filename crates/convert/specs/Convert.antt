@@ -8,7 +8,7 @@ use Rattle.block.specs.Body.{body_posts, right_body}
 use Rattle.block.specs.declared.summary.Summary.{Summary}
 use Rattle.shelf.specs.Walk.{Block, Listing, read_or, posts_of, strip_of, blocks_at}
 use Rattle.shelf.specs.Check.{bad_body, checked}
-use Rattle.shelf.specs.declared.check.BadRead.TheVariants.{NoBad}
+use Rattle.std.specs.Prelude.{None}
 use Rattle.shelf.specs.Answers.{Ready}
 use Rattle.shelf.specs.declared.walk.Place.{Place}
 use Rattle.list.specs.Write.{Word, bodies_bytes, blocks_bytes, words_of}
@@ -89,5 +89,5 @@ pub record Turns (m : Summary) (body : List ℕ) : Type 0 where
 pub record Turnable (s : List ℕ) (p : Place) (out : List ℕ) : Type 0 where
   pub ready : Ready s p
   pub fit : All (λ (b : Block). Fit b.sum) (blocks_at s p.at p.count)
-  pub right : bad_body (blocks_at s p.at p.count) ≡ NoBad
+  pub right : bad_body (blocks_at s p.at p.count) ≡ None
   pub room : length s ≤ length out

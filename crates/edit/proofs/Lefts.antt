@@ -16,10 +16,9 @@ use Rattle.model.proofs.Lists.{split, or_false, or_assoc}
 use Rattle.model.proofs.Storing.{Rest, rest-start, rest-turn, rest_end, rest-room}
 use Rattle.shelf.specs.Walk.{Listing, list, lists, posts_of, blocks_at, strip_of}
 use Rattle.shelf.specs.Check.{bad_body, bad_lists, checked}
-use Rattle.shelf.specs.Answers.{list_of}
+use Rattle.shelf.specs.Answers.{placed}
 use Rattle.shelf.specs.declared.walk.Place.{Place}
-use Rattle.shelf.specs.declared.walk.ListRead.TheVariants.{Is, Not}
-use Rattle.shelf.specs.declared.check.BadRead.TheVariants.{NoBad}
+use Rattle.std.specs.Prelude.{None}
 use Rattle.shelf.proofs.Walks.{list-is, list-not, list-walked}
 use Rattle.shelf.proofs.Sounds.{or_none}
 use Rattle.list.specs.Write.{Writable, Words, words_of}
@@ -97,7 +96,7 @@ module _ (s : List ℕ) (p : Place) (d : ℕ) where
 pub record Going (s : List ℕ) (floor at : ℕ) (rest : List Listing) : Type 0 where
   pub most : ℕ
   pub left : lists most floor at (drop at s) ≡ done rest
-  pub right : bad_lists rest ≡ NoBad
+  pub right : bad_lists rest ≡ None
   pub words : Words floor (words_of rest)
 
 pub going_start : (s : List ℕ) (ls : List Listing) → Bytes s → checked s ≡ done ls → Going s 0 0 ls
@@ -122,7 +121,7 @@ first-bytes s d x p xs t ps lay bs =
     let g : has d (docs x.posts) ≡ false = rw ps h in
     rw (g, h, bs))
 
-going_on : (floor at : ℕ) (s : List ℕ) (d : ℕ) (rest : List Listing) (p : Place) → Going s floor at rest → at < length s → list_of (list floor at (drop at s)) ≡ Is p → Goes s d rest p
+going_on : (floor at : ℕ) (s : List ℕ) (d : ℕ) (rest : List Listing) (p : Place) → Going s floor at rest → at < length s → placed (list floor at (drop at s)) ≡ done p → Goes s d rest p
 going_on floor at s d [] p g lt q = absurd (omega (arith, lists_nil g.most floor at s g.left))
 going_on floor at s d (l ∷ ms) p g lt q =
     let i = lists_inv g.most floor at s l ms g.left in
@@ -133,7 +132,7 @@ going_on floor at s d (l ∷ ms) p g lt q =
     let o = or_none (bad_body l.blocks) (bad_lists ms) g.right in
     let bl : l.blocks ≡ blocks_at s l.place.at l.place.count = rw w.start w.blocks in
     let ps : posts_of l.blocks ≡ posts_at s l.place = ap {B = List Post} posts_of bl in
-    let good : bad_body (blocks_at s l.place.at l.place.count) ≡ NoBad = rw bl at o.0 in
+    let good : bad_body (blocks_at s l.place.at l.place.count) ≡ None = rw bl at o.0 in
     let may : Writable (posts_at s l.place) = rw bl at g.words.2 in
     let n = right-count (blocks_at s l.place.at l.place.count) good in
     subst (λ (x : Place). Goes s d (l ∷ ms) x) at_p
@@ -150,7 +149,7 @@ going_on floor at s d (l ∷ ms) p g lt q =
       seen = rw ps;
     })
 
-pub list-starts : (floor at : ℕ) (s : List ℕ) (p : Place) → list_of (list floor at (drop at s)) ≡ Is p → p.at ≡ at
+pub list-starts : (floor at : ℕ) (s : List ℕ) (p : Place) → placed (list floor at (drop at s)) ≡ done p → p.at ≡ at
 list-starts floor at s p q =
     let o = list-is (list floor at (drop at s)) p q in
     sym (ap (λ (x : Place). x.at) o.2) ∙ (list-walked floor at s o.0 o.1).start
@@ -175,13 +174,13 @@ module _ (s : List ℕ) (d : ℕ) (ls : List Listing) (floor at bytes : ℕ) (he
       go [] e x y = record { bytes = omega arith; held = sym (or_false held) ∙ y }
       go (l ∷ ms) e x y = absurd (omega (arith, (lists_inv c.going.most floor at s l ms e).inside))
 
-  pub add-never : {C : Type 0} → at < length s → (k o : ℕ) → list_of (list floor at (drop at s)) ≡ Not k o → C
+  pub add-never : {C : Type 0} → at < length s → (k o : ℕ) → placed (list floor at (drop at s)) ≡ refused k o → C
   add-never lt k o q = absurd (not_stopped c.going.most floor at s c.rest c.going.left lt k o (list-not (list floor at (drop at s)) k o q))
 
-  pub add_goes : (p : Place) → at < length s → list_of (list floor at (drop at s)) ≡ Is p → Goes s d c.rest p
+  pub add_goes : (p : Place) → at < length s → placed (list floor at (drop at s)) ≡ done p → Goes s d c.rest p
   add_goes p lt q = going_on floor at s d c.rest p c.going lt q
 
-  pub add-on : (p : Place) (l : Left) → at < length s → list_of (list floor at (drop at s)) ≡ Is p → LeftOf s p d l → Adding s d ls (p.term + 1) p.next (bytes + l.bytes) (held || l.held)
+  pub add-on : (p : Place) (l : Left) → at < length s → placed (list floor at (drop at s)) ≡ done p → LeftOf s p d l → Adding s d ls (p.term + 1) p.next (bytes + l.bytes) (held || l.held)
   add-on p l lt q f =
       let g = add_goes p lt q in
       record {
@@ -210,10 +209,10 @@ module _ (s : List ℕ) (d : ℕ) (ls : List Listing) (l m : List ℕ) (floor at
       go [] e x = rest_end refl x
       go (k ∷ ms) e x = absurd (omega (arith, (lists_inv c.going.most floor at s k ms e).inside))
 
-  pub put_never : {C : Type 0} → at < length s → (k o : ℕ) → list_of (list floor at (drop at s)) ≡ Not k o → C
+  pub put_never : {C : Type 0} → at < length s → (k o : ℕ) → placed (list floor at (drop at s)) ≡ refused k o → C
   put_never lt k o q = absurd (not_stopped c.going.most floor at s c.rest c.going.left lt k o (list-not (list floor at (drop at s)) k o q))
 
-  module _ (p : Place) (lt : at < length s) (q : list_of (list floor at (drop at s)) ≡ Is p) where
+  module _ (p : Place) (lt : at < length s) (q : placed (list floor at (drop at s)) ≡ done p) where
     pub put_goes : Goes s d c.rest p
     put_goes = going_on floor at s d c.rest p c.going lt q
 

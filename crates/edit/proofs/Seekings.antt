@@ -24,7 +24,7 @@ use Rattle.shelf.specs.Walk.{Block, blocks_at, posts_of}
 use Rattle.shelf.specs.Check.{bad_body}
 use Rattle.shelf.specs.Blocks.{reading_of, blocks_left, Rests, Finds}
 use Rattle.shelf.specs.declared.walk.Place.{Place}
-use Rattle.shelf.specs.declared.check.BadRead.TheVariants.{NoBad}
+use Rattle.std.specs.Prelude.{None}
 use Rattle.shelf.specs.declared.blocks.Reading.{Reading}
 use Rattle.shelf.proofs.Readings.{start-rests, start_left_lem}
 use Rattle.list.proofs.Pours.{right-more, right-posts}
@@ -105,7 +105,7 @@ right-last m s e =
 -- no body that is left is wrong, and the docid is sought in their postings
 pub record Looking (s : List ℕ) (d : ℕ) (all : List Block) (r : Reading) : Type 0 where
   pub rests : Rests s r
-  pub right : bad_body (blocks_left s r) ≡ NoBad
+  pub right : bad_body (blocks_left s r) ≡ None
   pub seeks : Seeking d (posts_of all) (posts_of (blocks_left s r))
 
 pub look-start : (s : List ℕ) (d : ℕ) (p : Place) (r : Reading) → Sought s p → r ≡ reading_of p → Looking s d (blocks_left s r) r
@@ -118,7 +118,7 @@ abbrev pub run_in : List ℕ → Summary → (v e : ℕ) → List Post
 run_in s m v e = body_run m (take (e - v) (drop v s))
 
 module _ (s : List ℕ) (d : ℕ) (all : List Block) (r : Reading) (b : Block) (v e : ℕ) (next : Reading) (m : Summary) (q : b.sum ≡ m) (f : Finds s r b v e next) (k : Looking s d all r) where
-  good : (right_body b.sum b.body ≡ true) × (bad_body (blocks_left s next) ≡ NoBad)
+  good : (right_body b.sum b.body ≡ true) × (bad_body (blocks_left s next) ≡ None)
   good = right-more b (blocks_left s next) (rw f.left at k.right)
 
   found : body_run b.sum b.body ≡ run_in s m v e

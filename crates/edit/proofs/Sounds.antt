@@ -16,7 +16,7 @@ use Rattle.wire.specs.Read.{Read, got, stopped}
 use Rattle.block.specs.Body.{body_posts, fits, right_body}
 use Rattle.shelf.specs.Walk.{Block, Listing, read_or}
 use Rattle.shelf.specs.Check.{bad_body, bad_lists, checked}
-use Rattle.shelf.specs.declared.check.BadRead.TheVariants.{BadAt, NoBad}
+use Rattle.std.specs.Prelude.{Some, None}
 use Rattle.shelf.proofs.Sounds.{or_none}
 use Rattle.list.specs.Write.{Word, words_of}
 use Rattle.list.proofs.Shelves.{sound-words}
@@ -112,14 +112,14 @@ right-capped b e = go (body_posts b.sum b.body) e
     go (stopped k) f = absurd (false≢true f)
     go (got ps k) f = eqb-true _ _ (and-true (eqb (last_doc 0 ps) b.sum.greatest) _ f).1
 
-blocks-capped : (bs : List Block) → bad_body bs ≡ NoBad → All Capped bs
+blocks-capped : (bs : List Block) → bad_body bs ≡ None → All Capped bs
 blocks-capped [] e = tt
 blocks-capped (b ∷ bs) e =
     split (right_body b.sum b.body)
     (λ w. (right-capped b w, blocks-capped bs (rw w at e)))
-    (λ w. let g : BadAt b.body_at ≡ NoBad = rw w at e in let z : ◌≡◌ {A = ℕ} 0 1 = cc in absurd (omega arith))
+    (λ w. let g : Some b.body_at ≡ None = rw w at e in let z : ◌≡◌ {A = ℕ} 0 1 = cc in absurd (omega arith))
 
-lists-capped : (ls : List Listing) → bad_lists ls ≡ NoBad → All (λ (l : Listing). All Capped l.blocks) ls
+lists-capped : (ls : List Listing) → bad_lists ls ≡ None → All (λ (l : Listing). All Capped l.blocks) ls
 lists-capped [] e = tt
 lists-capped (l ∷ ls) e =
     let o = or_none (bad_body l.blocks) (bad_lists ls) e in

@@ -17,7 +17,7 @@ use Rattle.shelf.specs.Walk.{Listing, list, lists, posts_of, blocks_at, strip_of
 use Rattle.shelf.specs.Check.{bad_body, bad_lists, checked}
 use Rattle.shelf.specs.Answers.{Ready}
 use Rattle.shelf.specs.declared.walk.Place.{Place}
-use Rattle.shelf.specs.declared.check.BadRead.TheVariants.{NoBad}
+use Rattle.std.specs.Prelude.{None}
 use Rattle.shelf.proofs.Walks.{list-walked}
 use Rattle.shelf.proofs.Sounds.{or_none}
 use Rattle.list.specs.Write.{Writable, Words, words_of, list_bytes}
@@ -47,7 +47,7 @@ pub record Taking (s : List ℕ) (ls : List Listing) (at t : ℕ) (p : Place) : 
   pub front : take at s ++ joined before ≡ take p.at s
   pub back : joined after ≡ drop p.next s
   pub ready : Ready s p
-  pub right : bad_body (blocks_at s p.at p.count) ≡ NoBad
+  pub right : bad_body (blocks_at s p.at p.count) ≡ None
   pub may : Writable (posts_of (blocks_at s p.at p.count))
   pub order : p.at ≤ p.next
   pub inside : p.next ≤ length s
@@ -77,7 +77,7 @@ past-list floor at s l before a e f =
     let own : take at s ++ take k (drop at s) ≡ take l.place.next s = sym (take-add at k s) ∙ ap {B = List ℕ} (λ n. take n s) q in
     rw (w.start, ← append_assoc (take at s) (take k (drop at s)) (joined before), own) f
 
-taken : (n floor at t : ℕ) (s : List ℕ) (ls : List Listing) (p : Place) → lists n floor at (drop at s) ≡ done ls → bad_lists ls ≡ NoBad → Words floor (words_of ls) →
+taken : (n floor at t : ℕ) (s : List ℕ) (ls : List Listing) (p : Place) → lists n floor at (drop at s) ≡ done ls → bad_lists ls ≡ None → Words floor (words_of ls) →
     seat_of t at ls ≡ Taken p → Taking s ls at t p
 taken n floor at t s [] p e b g q = let z : ◌≡◌ {A = ℕ} 0 1 = cc in absurd (omega arith)
 taken n floor at t s (l ∷ ms) p e b g q =
@@ -133,7 +133,7 @@ taken n floor at t s (l ∷ ms) p e b g q =
       inside = r.inside;
     }))
 
-freed : (n floor at t : ℕ) (s : List ℕ) (ls : List Listing) (a : ℕ) → at ≤ length s → lists n floor at (drop at s) ≡ done ls → bad_lists ls ≡ NoBad → Words floor (words_of ls) →
+freed : (n floor at t : ℕ) (s : List ℕ) (ls : List Listing) (a : ℕ) → at ≤ length s → lists n floor at (drop at s) ≡ done ls → bad_lists ls ≡ None → Words floor (words_of ls) →
     seat_of t at ls ≡ Free a → Freeing s ls at t a
 freed n floor at t s [] a h e b g q =
     let z : at ≡ a = cc in

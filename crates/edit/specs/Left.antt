@@ -6,7 +6,7 @@ use Rattle.shelf.specs.Walk.{Listing, posts_of, strip_of, blocks_at}
 use Rattle.shelf.specs.Check.{bad_body}
 use Rattle.shelf.specs.Answers.{Ready}
 use Rattle.shelf.specs.declared.walk.Place.{Place}
-use Rattle.shelf.specs.declared.check.BadRead.TheVariants.{NoBad}
+use Rattle.std.specs.Prelude.{None}
 use Rattle.list.specs.Write.{Writable}
 use Rattle.list.specs.Fill.{Fillable}
 use Rattle.change.specs.Edits.{clear_post, every}
@@ -24,7 +24,7 @@ layout_at s p = strip_of (blocks_at s p.at p.count)
 -- a list of a sound shelf, as far as a docid is sought in it
 pub record Sought (s : List ℕ) (p : Place) : Type 0 where
   pub ready : Ready s p
-  pub right : bad_body (blocks_at s p.at p.count) ≡ NoBad
+  pub right : bad_body (blocks_at s p.at p.count) ≡ None
   pub rise : Rising 0 (posts_at s p)
 
 -- a list of a sound shelf, and room for its postings

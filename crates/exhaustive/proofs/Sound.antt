@@ -12,7 +12,7 @@ use Rattle.block.specs.Body.{right_body}
 use Rattle.block.proofs.Contents.{right-run}
 use Rattle.shelf.specs.Walk as shelf
 use Rattle.shelf.specs.Check.{bad_body, bad_lists, checked}
-use Rattle.shelf.specs.declared.check.BadRead.TheVariants.{BadAt, NoBad}
+use Rattle.std.specs.Prelude.{Some, None}
 use Rattle.shelf.proofs.Sounds.{or_none, sound-walk}
 use Rattle.lookup.specs.Gather.{term_blocks}
 use Rattle.lookup.proofs.Stands.{term-has}
@@ -23,22 +23,22 @@ use Rattle.prune.specs.Prune.{posts_of, terms_of, fault_in, fault_all}
 use Rattle.exhaustive.specs.Lists.{block_of, listings_of, term_on}
 use Rattle.exhaustive.specs.Exhaustive.{rank_all}
 
-right-blocks : (bs : List shelf.Block) → bad_body bs ≡ NoBad → (posts_of (map block_of bs) ≡ shelf.posts_of bs) × (fault_in (map block_of bs) ≡ none)
+right-blocks : (bs : List shelf.Block) → bad_body bs ≡ None → (posts_of (map block_of bs) ≡ shelf.posts_of bs) × (fault_in (map block_of bs) ≡ none)
 right-blocks [] e = (refl, refl)
 right-blocks (b ∷ bs) e =
     split (right_body b.sum b.body)
     (λ r. let ih = right-blocks bs (rw r at e) in rw (r, (right-run b.sum b.body r).1) (rw ih.0, ih.1))
-    (λ r. let f : BadAt b.body_at ≡ NoBad = rw r at e in let z : ◌≡◌ {A = ℕ} 0 1 = cc in absurd (omega arith))
+    (λ r. let f : Some b.body_at ≡ None = rw r at e in let z : ◌≡◌ {A = ℕ} 0 1 = cc in absurd (omega arith))
 
-all_right_lem : (ls : List shelf.Listing) → bad_lists ls ≡ NoBad → All (λ (l : shelf.Listing). bad_body l.blocks ≡ NoBad) ls
+all_right_lem : (ls : List shelf.Listing) → bad_lists ls ≡ None → All (λ (l : shelf.Listing). bad_body l.blocks ≡ None) ls
 all_right_lem [] e = tt
 all_right_lem (l ∷ ls) e = let o = or_none (bad_body l.blocks) (bad_lists ls) e in (o.0, all_right_lem ls o.1)
 
-term-right : (ls : List shelf.Listing) → bad_lists ls ≡ NoBad → (t : ℕ) → bad_body (term_blocks t ls) ≡ NoBad
-term-right ls e t = term-has (λ (l : shelf.Listing). bad_body l.blocks ≡ NoBad) refl t ls (all_right_lem ls e)
+term-right : (ls : List shelf.Listing) → bad_lists ls ≡ None → (t : ℕ) → bad_body (term_blocks t ls) ≡ None
+term-right ls e t = term-has (λ (l : shelf.Listing). bad_body l.blocks ≡ None) refl t ls (all_right_lem ls e)
 
 -- the query's lists have the postings that the shelf holds for their terms, and no fault
-pub lists-right : (ls : List shelf.Listing) → bad_lists ls ≡ NoBad → (xs : List Asked) → (terms_of (listings_of xs ls) ≡ map (term_on ls) xs) × (fault_all (listings_of xs ls) ≡ none)
+pub lists-right : (ls : List shelf.Listing) → bad_lists ls ≡ None → (xs : List Asked) → (terms_of (listings_of xs ls) ≡ map (term_on ls) xs) × (fault_all (listings_of xs ls) ≡ none)
 lists-right ls e [] = (refl, refl)
 lists-right ls e (x ∷ xs) =
     let r = right-blocks (term_blocks x.term ls) (term-right ls e x.term) in

@@ -26,7 +26,7 @@ use Rattle.block.proofs.Summaries.{sum-parts, sum_room, right_facts}
 use Rattle.block.proofs.Contents.{Whole, right-body}
 use Rattle.shelf.specs.Walk.{Block, Listing, read_or, head_term, head_count, right_head, one_sum, sums, one_body, bodies_of, bodies, strip_of, blocks_of, listed, list}
 use Rattle.shelf.specs.Check.{bad_body}
-use Rattle.shelf.specs.declared.check.BadRead.TheVariants.{BadAt, NoBad}
+use Rattle.std.specs.Prelude.{Some, None}
 use Rattle.shelf.proofs.Walks.{any_strip, any_greatest, head-room, sums-place, strip-is, bodies-place, all-place}
 use Rattle.list.specs.Write.{sums_bytes, bodies_bytes, blocks_bytes}
 use Rattle.list.proofs.Writes.{Fine, Fines}
@@ -209,7 +209,7 @@ module _ (strip : Bool) where
         sized = (size_of strip c (sum_of strip m) sum, r.sized);
       }
 
-  blocks-only : (n prev a b d e : ℕ) (m s : List ℕ) → Bytes m → Bytes s → sums n prev a m ≡ done d → bodies_of strip n b s ≡ done e → bad_body (blocks_of n a m b s) ≡ NoBad →
+  blocks-only : (n prev a b d e : ℕ) (m s : List ℕ) → Bytes m → Bytes s → sums n prev a m ≡ done d → bodies_of strip n b s ≡ done e → bad_body (blocks_of n a m b s) ≡ None →
       Blocks strip n prev b e m s (blocks_of n a m b s)
   unfolding sums one_sum bodies_of one_body blocks_of
   blocks-only zero prev a b d e m s hm hs p q f = blocks-none prev a b b e m s q
@@ -225,11 +225,11 @@ module _ (strip : Bool) where
       let p1 : sums n (sum_of false m).greatest (a + 12) (drop 12 m) ≡ done d = rw (i, r) at p in
       let p2 : sums n (sum_of strip m).greatest (a + 12) (drop 12 m) ≡ done d = rw (any_greatest strip m) p1 in
       let q1 : bodies_of strip n (b + k) (drop k s) ≡ done e = rw w at q in
-      let f1 : bad_body (blocks_of n (a + 12) (drop 12 m) (b + k) (drop k s)) ≡ NoBad = rw (lay, t) at f in
+      let f1 : bad_body (blocks_of n (a + 12) (drop 12 m) (b + k) (drop k s)) ≡ None = rw (lay, t) at f in
       let ih = blocks-only n (sum_of strip m).greatest (a + 12) (b + k) d e (drop 12 m) (drop k s) (bytes_drop 12 m hm) (bytes_drop k s hs) p2 q1 f1 in
       let o = block-only prev (sum_of strip m) (field_value s) (value-bytes s hs) (greatest-small strip m hm i) (any_strip strip prev m ∙ r) t in
       rw lay (blocks_cons n prev a b e m s hm i hs w (bodies-place strip n (b + k) (drop k s) e q1).0 o (blocks_of n (a + 12) (drop 12 m) (b + k) (drop k s)) ih))
-      (λ t. let g : BadAt b ≡ NoBad = rw (lay, t) at f in let z : ◌≡◌ {A = ℕ} 0 1 = cc in absurd (omega arith)))
+      (λ t. let g : Some b ≡ None = rw (lay, t) at f in let z : ◌≡◌ {A = ℕ} 0 1 = cc in absurd (omega arith)))
       (λ w. let g : refused 6 b ≡ done e = rw w at q in let z : ◌≡◌ {A = ℕ} 0 1 = cc in absurd (omega arith)))
       (λ r. let g : refused 7 a ≡ done d = rw (i, r) at p in let z : ◌≡◌ {A = ℕ} 0 1 = cc in absurd (omega arith)))
       (λ i. let g : refused 6 a ≡ done d = rw i at p in let z : ◌≡◌ {A = ℕ} 0 1 = cc in absurd (omega arith))
@@ -305,7 +305,7 @@ listed_reads strip floor at next s h i l m b =
 
 abbrev ReadsIf : (floor at : ℕ) → List ℕ → Outcome Listing → Type 0
 ReadsIf floor at s (refused n o) = Unit {0}
-ReadsIf floor at s (done l) = bad_body l.blocks ≡ NoBad → Reads floor at s l
+ReadsIf floor at s (done l) = bad_body l.blocks ≡ None → Reads floor at s l
 
 reads_if : (floor at : ℕ) (s : List ℕ) → Bytes s → ReadsIf floor at s (list floor at s)
 unfolding list
@@ -331,5 +331,5 @@ reads_if floor at s h =
     on_sums i (done d) e = on_bodies d i e (bodies (head_count s) d (drop (8 + 12 * head_count s) s)) refl
 
 -- a list that reads, and whose bodies are right, is what is written for its blocks
-pub list-only : (floor at : ℕ) (s : List ℕ) (l : Listing) → Bytes s → list floor at s ≡ done l → bad_body l.blocks ≡ NoBad → Reads floor at s l
+pub list-only : (floor at : ℕ) (s : List ℕ) (l : Listing) → Bytes s → list floor at s ≡ done l → bad_body l.blocks ≡ None → Reads floor at s l
 list-only floor at s l h e = rw e at (reads_if floor at s h)

@@ -17,7 +17,7 @@ use Rattle.lookup.specs.Find.{found, shown_of}
 use Rattle.lookup.specs.declared.find.Shown.TheVariants as shown
 use Rattle.lookup.proofs.Stands.{found_stands}
 use Rattle.shelf.specs.declared.walk.Place.{Place}
-use Rattle.shelf.specs.declared.check.BadRead.TheVariants.{BadAt, NoBad}
+use Rattle.std.specs.Prelude.{Some, None}
 use Rattle.list.specs.Answer.{Gives}
 use Rattle.list.specs.Read.{count_of, read_blocks, read_list, Reads}
 use Rattle.list.specs.Fill.{Fillable, Filled}
@@ -40,13 +40,13 @@ gives-stored v l m r h s =
 -- ---- a walked list's blocks
 
 module _ (bs : List Block) (d w : ℕ) where
-  pub read_bad : (o : ℕ) → bad_body bs ≡ BadAt o → read_blocks bs d w ≡ refused 8 o
+  pub read_bad : (o : ℕ) → bad_body bs ≡ Some o → read_blocks bs d w ≡ refused 8 o
   read_bad o e = rw e
 
-  pub read_short : bad_body bs ≡ NoBad → min d w < count_of bs → read_blocks bs d w ≡ refused 9 0
+  pub read_short : bad_body bs ≡ None → min d w < count_of bs → read_blocks bs d w ≡ refused 9 0
   read_short e h = rw (e, lt-leb (length (posts_of bs)) (min d w) (omega (arith, right-count bs e)))
 
-  pub read_whole : bad_body bs ≡ NoBad → count_of bs ≤ d → count_of bs ≤ w → read_blocks bs d w ≡ done (posts_of bs)
+  pub read_whole : bad_body bs ≡ None → count_of bs ≤ d → count_of bs ≤ w → read_blocks bs d w ≡ done (posts_of bs)
   read_whole e h k = rw (e, le-leb (length (posts_of bs)) (min d w) (omega (arith, right-count bs e)))
 
 pub reads_filled : (s : List ℕ) (p : Place) (ds ss ds' ss' : List ℕ) (r : ℕ) → Fillable s p (length ds) (length ss) → Filled s p ds ss ds' ss' r →

@@ -11,7 +11,7 @@ use Rattle.model.specs.Post.{Post}
 use Rattle.model.specs.Runs.{Bytes}
 use Rattle.shelf.specs.Walk.{Listing, posts_of, strip_of, list}
 use Rattle.shelf.specs.Check.{bad_body}
-use Rattle.shelf.specs.declared.check.BadRead.TheVariants.{NoBad}
+use Rattle.std.specs.Prelude.{None}
 use Rattle.list.specs.Write.{packed, blocks_bytes, list_bytes, Writable}
 use Rattle.list.proofs.Writes.{Fines, blocks-size, written, list_round, bad_round, posts_round, strip_round, joined, packed-joined, packed-few, packed-some, writable_fine, list-bytes}
 use Rattle.list.proofs.Canonical.{chunks, chunks_length, list-only}
@@ -26,7 +26,7 @@ pub record ReadsAt (strip : Bool) (t : ℕ) (ps : List Post) (v : List ℕ) (flo
   pub next : found.place.next ≡ at + length v
   pub posts : posts_of found.blocks ≡ ps
   pub layout : strip_of found.blocks ≡ strip
-  pub right : bad_body found.blocks ≡ NoBad
+  pub right : bad_body found.blocks ≡ None
 
 -- they are read so at any place, after lists of lower terms and whatever follows
 pub record Stands (strip : Bool) (t : ℕ) (ps : List Post) (v : List ℕ) : Type 0 where
@@ -58,7 +58,7 @@ packed_stands strip t ps small w =
     (blocks-stand strip t (packed 64 ps) small (packed-some 63 ps w.some) (packed-few 64 ps) (writable_fine ps w)))
 
 -- a list that is copied byte for byte
-pub copied_stands : (floor at : ℕ) (s : List ℕ) (l : Listing) → Bytes s → list floor at s ≡ done l → bad_body l.blocks ≡ NoBad →
+pub copied_stands : (floor at : ℕ) (s : List ℕ) (l : Listing) → Bytes s → list floor at s ≡ done l → bad_body l.blocks ≡ None →
     Stands (strip_of l.blocks) l.place.term (posts_of l.blocks) (take (l.place.next - at) s)
 copied_stands floor at s l h e f =
     let r = list-only floor at s l h e f in

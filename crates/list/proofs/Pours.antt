@@ -18,7 +18,7 @@ use Rattle.shelf.specs.Check.{bad_body}
 use Rattle.shelf.specs.Answers.{Ready}
 use Rattle.shelf.specs.Blocks.{reading_of, blocks_left, Rests, Finds}
 use Rattle.shelf.specs.declared.walk.Place.{Place}
-use Rattle.shelf.specs.declared.check.BadRead.TheVariants.{BadAt, NoBad}
+use Rattle.std.specs.Prelude.{Some, None}
 use Rattle.shelf.specs.declared.blocks.Reading.{Reading}
 use Rattle.shelf.proofs.Readings.{start-rests, start_left_lem}
 use Rattle.list.specs.Read.{count_of}
@@ -52,11 +52,11 @@ count-done s p b r n q e c =
 -- ---- right bodies
 
 -- the first of some blocks with no wrong body: it is right, and none of the others is wrong
-pub right-more : (b : Block) (bs : List Block) → bad_body (b ∷ bs) ≡ NoBad → (right_body b.sum b.body ≡ true) × (bad_body bs ≡ NoBad)
+pub right-more : (b : Block) (bs : List Block) → bad_body (b ∷ bs) ≡ None → (right_body b.sum b.body ≡ true) × (bad_body bs ≡ None)
 right-more b bs e =
     split (right_body b.sum b.body)
     (λ t. (t, rw t at e))
-    (λ t. let g : BadAt b.body_at ≡ NoBad = rw t at e in let z : ◌≡◌ {A = ℕ} 0 1 = cc in absurd (omega arith))
+    (λ t. let g : Some b.body_at ≡ None = rw t at e in let z : ◌≡◌ {A = ℕ} 0 1 = cc in absurd (omega arith))
 
 -- its postings are those that are read into a run, as many as its summary says
 pub right-posts : (b : Block) (bs : List Block) → right_body b.sum b.body ≡ true →
@@ -65,7 +65,7 @@ right-posts b bs t =
     let r = right-run b.sum b.body t in
     (rw r.1, r.2)
 
-pub right-count : (bs : List Block) → bad_body bs ≡ NoBad → length (posts_of bs) ≡ count_of bs
+pub right-count : (bs : List Block) → bad_body bs ≡ None → length (posts_of bs) ≡ count_of bs
 right-count [] e = refl
 right-count (b ∷ bs) e =
     let t = right-more b bs e in
@@ -81,7 +81,7 @@ map-front {A} f (x ∷ xs) ys = ap {B = List A} (λ t. f x ∷ t) (map-front f x
 -- the blocks before r were poured: i postings stand at the front of both runs, and those of the blocks left are still to come
 pub record Pouring (s : List ℕ) (all : List Block) (ds₀ ss₀ ds ss : List ℕ) (r : Reading) (i : ℕ) : Type 0 where
   pub rests : Rests s r
-  pub right : bad_body (blocks_left s r) ≡ NoBad
+  pub right : bad_body (blocks_left s r) ≡ None
   pub docids : Rest ds₀ ds 0 i (docs (posts_of all)) (docs (posts_of (blocks_left s r)))
   pub scored : Rest ss₀ ss 0 i (scores (posts_of all)) (scores (posts_of (blocks_left s r)))
   pub roomy : i + count_of (blocks_left s r) ≤ length ds
@@ -112,7 +112,7 @@ module _ (s : List ℕ) (all : List Block) (ds₀ ss₀ ds ss : List ℕ) (r : R
 
   pub pour_turn : (ds' ss' : List ℕ) (t : Bool) → ReadsInto m (take (e - v) (drop v s)) i ds ss ds' ss' t → Pouring s all ds₀ ss₀ ds' ss' next (i + m.count)
   pour_turn ds' ss' t w =
-      let bad : bad_body (b ∷ blocks_left s next) ≡ NoBad = rw f.left at c.right in
+      let bad : bad_body (b ∷ blocks_left s next) ≡ None = rw f.left at c.right in
       let ok = right-more b (blocks_left s next) bad in
       let posts = right-posts b (blocks_left s next) ok.0 in
       let run = body_run b.sum b.body in

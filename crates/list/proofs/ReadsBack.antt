@@ -16,7 +16,7 @@ use Rattle.shelf.specs.Walk.{Listing}
 use Rattle.shelf.specs.Check.{bad_body, bad_lists, checked}
 use Rattle.shelf.proofs.Sounds.{or_none, sound-walk}
 use Rattle.lookup.specs.Find.{find_of, found}
-use Rattle.shelf.specs.declared.check.BadRead.TheVariants.{NoBad}
+use Rattle.std.specs.Prelude.{None}
 use Rattle.list.specs.Read.{in_room, read_blocks, read_list}
 use Rattle.list.specs.Write.{Word, Words, list_bytes, writing, words_of, write_list}
 use Rattle.list.proofs.Accepted.{written-accepted}
@@ -28,7 +28,7 @@ abbrev pub find_word : ℕ → List Word → Outcome (List Post)
 find_word t [] = refused 12 0
 find_word t (w ∷ ws) = cond (eqb w.term t) (done w.posts) (find_word t ws)
 
-find_words : (t d w : ℕ) (ls : List Listing) → bad_lists ls ≡ NoBad → and_then (find_of t ls) (λ l. read_blocks l.blocks d w) ≡ and_then (find_word t (words_of ls)) (in_room d w)
+find_words : (t d w : ℕ) (ls : List Listing) → bad_lists ls ≡ None → and_then (find_of t ls) (λ l. read_blocks l.blocks d w) ≡ and_then (find_word t (words_of ls)) (in_room d w)
 find_words t d w [] e = refl
 find_words t d w (l ∷ ls) e =
     let b = or_none (bad_body l.blocks) (bad_lists ls) e in

@@ -10,7 +10,7 @@ use Rattle.model.specs.Runs.{All, Bytes}
 use Rattle.model.proofs.Lists.{bytes_drop}
 use Rattle.shelf.specs.Walk.{Listing, list, onto, lists}
 use Rattle.shelf.specs.Check.{bad_body, bad_lists, checked}
-use Rattle.shelf.specs.declared.check.BadRead.TheVariants.{NoBad}
+use Rattle.std.specs.Prelude.{None}
 use Rattle.shelf.proofs.Sounds.{or_none, sound-walk}
 use Rattle.lookup.proofs.Stands.{walk-lists}
 use Rattle.list.specs.Write.{list_bytes, Word, writing, Words, words_of, Full}
@@ -45,13 +45,13 @@ record Whole (floor : ℕ) (s : List ℕ) (ls : List Listing) : Type 0 where
 
 abbrev WholeIf : ℕ → List ℕ → Outcome (List Listing) → Type 0
 WholeIf floor s (refused n o) = Unit {0}
-WholeIf floor s (done ls) = bad_lists ls ≡ NoBad → Whole floor s ls
+WholeIf floor s (done ls) = bad_lists ls ≡ None → Whole floor s ls
 
 whole-none : (floor : ℕ) → Whole floor [] []
 unfolding writing
 whole-none floor = record { words = tt; bytes = λ p. refl }
 
-whole_cons : (floor at : ℕ) (s : List ℕ) (l : Listing) (ls : List Listing) → Bytes s → list floor at s ≡ done l → bad_body l.blocks ≡ NoBad →
+whole_cons : (floor at : ℕ) (s : List ℕ) (l : Listing) (ls : List Listing) → Bytes s → list floor at s ≡ done l → bad_body l.blocks ≡ None →
     Whole (l.place.term + 1) (drop (l.place.next - at) s) ls → Whole floor s (l ∷ ls)
 unfolding writing
 whole_cons floor at s l ls h e f w =
@@ -84,7 +84,7 @@ module _ (s : List ℕ) (ls : List Listing) (h : Bytes s) (e : checked s ≡ don
   sound : Whole 0 s ls
   sound =
       let w = sound-walk s ls e in
-      let whole : bad_lists ls ≡ NoBad → Whole 0 s ls = rw (walk-lists s ls w.0) at (whole_if max_lists 0 0 s h) in
+      let whole : bad_lists ls ≡ None → Whole 0 s ls = rw (walk-lists s ls w.0) at (whole_if max_lists 0 0 s h) in
       whole w.1
 
   -- the lists of a sound shelf may be written

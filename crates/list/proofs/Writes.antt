@@ -26,7 +26,7 @@ use Rattle.shelf.specs.Walk.{Block, Listing, head_term, head_count, right_head, 
 use Rattle.shelf.specs.Check.{bad_body, bad_lists, checked}
 use Rattle.shelf.proofs.Walks.{any_strip, any_greatest, strip-is}
 use Rattle.list.specs.Write.{packed, sums_bytes, bodies_bytes, blocks_bytes, list_bytes, Word, writing, Writable, Words}
-use Rattle.shelf.specs.declared.check.BadRead.TheVariants.{NoBad}
+use Rattle.std.specs.Prelude.{None}
 
 -- ---- blocks that may be written, the first after docid p
 
@@ -155,7 +155,7 @@ module _ (strip : Bool) where
       )
 
   -- every written body is right
-  pub bad_round : (p a b : ℕ) (bs : List (List Post)) → Fines p bs → bad_body (blocks_for a b bs) ≡ NoBad
+  pub bad_round : (p a b : ℕ) (bs : List (List Post)) → Fines p bs → bad_body (blocks_for a b bs) ≡ None
   bad_round p a b [] f = refl
   bad_round p a b ([] ∷ bs) f = absurd f.0
   bad_round p a b ((x ∷ xs) ∷ bs) f =
@@ -372,7 +372,7 @@ lists_round (suc n) floor at (w ∷ ws) h ok =
     let past : drop (at + length front - at) (front ++ writing ws) ≡ writing ws = rw less (drop-append_seam front (writing ws)) in
     rw (list-bytes strip t w.posts, some_more n floor at (front ++ writing ws) some, one, next, past, lists_round n (t + 1) (at + length front) ws (omega arith) ok.3)
 
-bad_from : (floor at : ℕ) (ws : List Word) → Words floor ws → bad_lists (written_from at ws) ≡ NoBad
+bad_from : (floor at : ℕ) (ws : List Word) → Words floor ws → bad_lists (written_from at ws) ≡ None
 bad_from floor at [] ok = refl
 bad_from floor at (w ∷ ws) ok =
     let bs = packed 64 w.posts in

@@ -13,7 +13,7 @@ use Rattle.model.proofs.Lists.{All_append, map-length}
 use Rattle.model.proofs.Posts.{last-append, rising-join}
 use Rattle.shelf.specs.Walk.{Block, Listing, posts_of, strip_of, list}
 use Rattle.shelf.specs.Check.{bad_body}
-use Rattle.shelf.specs.declared.check.BadRead.TheVariants.{NoBad}
+use Rattle.std.specs.Prelude.{None}
 use Rattle.list.specs.Write.{packed, list_bytes, Writable, Paired, Full, write_list}
 use Rattle.list.proofs.Writes.{Fine, Fines, joined, list-bytes}
 use Rattle.list.proofs.Accepted.{accepted-written}
@@ -101,7 +101,7 @@ front_of v s k h e =
     let n : length v ≡ k = omega (arith, length-append v (drop k s), length-drop k s, ap length e) in
     (sym (take_at v (drop k s) k n) ∙ ap (take k) e, n)
 
-module _ (floor at : ℕ) (s : List ℕ) (l : Listing) (h : Bytes s) (e : list floor at s ≡ done l) (f : bad_body l.blocks ≡ NoBad) where
+module _ (floor at : ℕ) (s : List ℕ) (l : Listing) (h : Bytes s) (e : list floor at s ≡ done l) (f : bad_body l.blocks ≡ None) where
   -- the postings of a list that was read, its bodies right, may be written
   pub read_writable : Writable (posts_of l.blocks)
   read_writable =

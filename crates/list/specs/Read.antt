@@ -7,8 +7,8 @@ use Rattle.list.specs.declared.answer.Answer.{Answer}
 use Rattle.shelf.specs.Walk.{Block, posts_of}
 use Rattle.lookup.specs.Find.{found}
 use Rattle.shelf.specs.Check.{bad_body}
-use Rattle.shelf.specs.declared.check.BadRead.{BadRead}
-use Rattle.shelf.specs.declared.check.BadRead.TheVariants.{BadAt, NoBad}
+use Rattle.std.specs.Prelude.{Option}
+use Rattle.std.specs.Prelude.{Some, None}
 
 -- how many postings a list's summaries say it has
 abbrev pub count_of : List Block → ℕ
@@ -16,9 +16,9 @@ count_of [] = 0
 count_of (b ∷ bs) = b.sum.count + count_of bs
 
 -- the list's postings, where no body is wrong; the first wrong body's tag otherwise
-abbrev pub held_by : List Block → BadRead → Outcome (List Post)
-held_by bs NoBad = done (posts_of bs)
-held_by bs (BadAt o) = refused 8 o
+abbrev pub held_by : List Block → Option ℕ → Outcome (List Post)
+held_by bs None = done (posts_of bs)
+held_by bs (Some o) = refused 8 o
 
 -- the postings, where two runs of d and w numbers have room for them
 abbrev pub in_room : (d w : ℕ) → List Post → Outcome (List Post)

@@ -18,7 +18,7 @@ use Rattle.shelf.specs.Cursor.{start, walk_step, lists_at, listing_at}
 use Rattle.lookup.specs.Gather.{no_list, term_list, place_at, each, Finds, noted, Notes}
 use Rattle.shelf.specs.declared.walk.Place.{Place}
 use Rattle.shelf.specs.declared.walk.Walk.{Walk}
-use Rattle.shelf.specs.declared.walk.WalkStep.TheVariants as step
+use Rattle.shelf.specs.Step as step
 use Rattle.shelf.specs.declared.check.Checked.TheVariants.{Sound, Fault}
 use Rattle.shelf.proofs.Steps.{Turn, walk_start, walk_end, walk-fault}
 

@@ -14,14 +14,11 @@ use Rattle.wire.proofs.Fields.{field_is, field-not}
 use Rattle.block.specs.Summary.{sum_of}
 use Rattle.block.specs.Body.{is_strip, tag_of}
 use Rattle.shelf.specs.Walk.{bodies}
-use Rattle.shelf.specs.Answers.{place_of}
 use Rattle.lookup.specs.Show.{bodies_from, has_block, summary_shown, part_at, body_shown}
 use Rattle.shelf.specs.declared.walk.Place.{Place}
-use Rattle.shelf.specs.declared.walk.PlaceRead.TheVariants.{Past, Refused}
 use Rattle.lookup.specs.declared.find.Shown.TheVariants as shown
 use Rattle.lookup.specs.declared.find.SummaryShown.TheVariants.{Numbers, NoSummary}
 use Rattle.lookup.specs.declared.find.BodyShown.TheVariants.{Part, NoBody}
-use Rattle.shelf.proofs.Walks.{place-past, place-refused}
 
 -- ---- whether there is a block
 
@@ -64,13 +61,13 @@ module _ (s : List ℕ) (p : Place) (j : ℕ) where
 
   -- ---- its body
 
-  pub body-here : has_block s p j ≡ true → (b : ℕ) → place_of (bodies j (bodies_from p) (drop (bodies_from p) s)) ≡ Past b → body_shown s (shown.List p) j ≡ part_at s b
+  pub body-here : has_block s p j ≡ true → (b : ℕ) → bodies j (bodies_from p) (drop (bodies_from p) s) ≡ done b → body_shown s (shown.List p) j ≡ part_at s b
   unfolding body_shown
-  body-here e b q = rw (e, place-past (bodies j (bodies_from p) (drop (bodies_from p) s)) b q)
+  body-here e b q = rw (e, q)
 
-  pub body-cut : has_block s p j ≡ true → (n o : ℕ) → place_of (bodies j (bodies_from p) (drop (bodies_from p) s)) ≡ Refused n o → body_shown s (shown.List p) j ≡ NoBody 12 0
+  pub body-cut : has_block s p j ≡ true → (n o : ℕ) → bodies j (bodies_from p) (drop (bodies_from p) s) ≡ refused n o → body_shown s (shown.List p) j ≡ NoBody 12 0
   unfolding body_shown
-  body-cut e n o q = rw (e, place-refused (bodies j (bodies_from p) (drop (bodies_from p) s)) n o q)
+  body-cut e n o q = rw (e, q)
 
   pub body-none : has_block s p j ≡ false → body_shown s (shown.List p) j ≡ NoBody 12 0
   unfolding body_shown

@@ -17,8 +17,8 @@ use Rattle.shelf.specs.Cursor.{start, walk_step, lists_at, listing_at}
 use Rattle.lookup.specs.Find.{find_of, found}
 use Rattle.lookup.specs.Gather.{no_list, term_list, place_at, term_blocks}
 use Rattle.shelf.specs.declared.walk.Walk.{Walk}
-use Rattle.shelf.specs.declared.walk.WalkStep.{WalkStep}
-use Rattle.shelf.specs.declared.walk.WalkStep.TheVariants as step
+use Rattle.shelf.specs.Step.{WalkStep}
+use Rattle.shelf.specs.Step as step
 use Rattle.shelf.proofs.Steps.{walk_start, turn, walk_end, walk-fault}
 
 pub record Standing (s : List ℕ) (l : Listing) : Type 0 where

@@ -3,3 +3,4 @@ pub mod Lists
 pub mod Runs
 pub mod Storing
 pub mod Posts
+pub mod Refusals

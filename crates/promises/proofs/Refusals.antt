@@ -21,8 +21,8 @@ use Rattle.lookup.specs.Show.{block_of, summary_shown, body_shown, paper_summary
 use Rattle.lookup.proofs.Shows.{summary-refused, body_refused}
 use Rattle.lookup.proofs.Showings.{shown-summary, shown-body}
 use Rattle.lookup.specs.Gather.{term_list, term_blocks}
-use Rattle.shelf.specs.declared.check.BadRead.{BadRead}
-use Rattle.shelf.specs.declared.check.BadRead.TheVariants.{BadAt, NoBad}
+use Rattle.std.specs.Prelude.{Option}
+use Rattle.std.specs.Prelude.{Some, None}
 use Rattle.list.specs.Write.{fault_at, list_bytes, write_list}
 use Rattle.list.specs.Read.{held_by, in_room, read_blocks, read_list}
 use Rattle.change.specs.Edits.{Edit}
@@ -124,9 +124,9 @@ query_refuses q = go (field_count q)
 
 -- ---- a shelf
 
-body-row : (ls : List Listing) (r : BadRead) → judged (verdict ls r) ≡ and_then (body_fault r) (λ ok. done tt)
-body-row ls NoBad = refl
-body-row ls (BadAt at) = refl
+body-row : (ls : List Listing) (r : Option ℕ) → judged (verdict ls r) ≡ and_then (body_fault r) (λ ok. done tt)
+body-row ls None = refl
+body-row ls (Some at) = refl
 
 pub check_refuses : (s : List ℕ) → judged (checked s) ≡ first_fault (check_faults s)
 unfolding checked
@@ -231,9 +231,9 @@ room_row d w ps = unless-row (leb (length ps) (min d w)) 9 0 (done ps)
 blocks-rows : (bs : List Block) (d w : ℕ) → judged (read_blocks bs d w) ≡ first_fault (body_fault (bad_body bs) ∷ row (not (leb (length (posts_of bs)) (min d w))) 9 0 ∷ [])
 blocks-rows bs d w = go (bad_body bs)
   where
-    go : (r : BadRead) → judged (and_then (held_by bs r) (in_room d w)) ≡ first_fault (body_fault r ∷ row (not (leb (length (posts_of bs)) (min d w))) 9 0 ∷ [])
-    go (BadAt at) = refl
-    go NoBad = room_row d w (posts_of bs)
+    go : (r : Option ℕ) → judged (and_then (held_by bs r) (in_room d w)) ≡ first_fault (body_fault r ∷ row (not (leb (length (posts_of bs)) (min d w))) 9 0 ∷ [])
+    go (Some at) = refl
+    go None = room_row d w (posts_of bs)
 
 pub read_refuses : (t : ℕ) (s : List ℕ) (d w : ℕ) → judged (read_list t s d w) ≡ first_fault (read_faults t s d w)
 unfolding read_list found
@@ -269,9 +269,9 @@ pub edit_refuses : (e : Edit) (s : List ℕ) (room : ℕ) → judged (edited e s
 unfolding edited checked
 edit_refuses e s room = unless-row (in_range e) 10 0 _ ∙ after (row (not (in_range e)) 10 0) (go (walk s))
   where
-    by-body : (ls : List Listing) (r : BadRead) → judged (and_then (verdict ls r) (λ ms. settled e (pieces s ms) room)) ≡ and_then (body_fault r) (λ ok. judged (settled e (pieces s ls) room))
-    by-body ls (BadAt at) = refl
-    by-body ls NoBad = refl
+    by-body : (ls : List Listing) (r : Option ℕ) → judged (and_then (verdict ls r) (λ ms. settled e (pieces s ms) room)) ≡ and_then (body_fault r) (λ ok. judged (settled e (pieces s ls) room))
+    by-body ls (Some at) = refl
+    by-body ls None = refl
 
     go : (o : Outcome (List Listing)) → judged (and_then (and_then o (λ ls. verdict ls (bad_lists ls))) (λ ls. settled e (pieces s ls) room))
         ≡ and_then (judged o) (λ ok. and_then (body_fault (bad_lists (lists_of o))) (λ ok. first_fault (
@@ -292,9 +292,9 @@ pub convert_refuses : (t : ℕ) (s : List ℕ) (room : ℕ) → judged (converte
 unfolding converted checked
 convert_refuses t s room = go (walk s)
   where
-    by-body : (ls : List Listing) (r : BadRead) → judged (and_then (verdict ls r) (λ ms. turning t s ms room)) ≡ and_then (body_fault r) (λ ok. judged (turning t s ls room))
-    by-body ls (BadAt at) = refl
-    by-body ls NoBad = refl
+    by-body : (ls : List Listing) (r : Option ℕ) → judged (and_then (verdict ls r) (λ ms. turning t s ms room)) ≡ and_then (body_fault r) (λ ok. judged (turning t s ls room))
+    by-body ls (Some at) = refl
+    by-body ls None = refl
 
     go : (o : Outcome (List Listing)) → judged (and_then (and_then o (λ ls. verdict ls (bad_lists ls))) (λ ls. turning t s ls room))
         ≡ and_then (judged o) (λ ok. and_then (body_fault (bad_lists (lists_of o))) (λ ok. first_fault (

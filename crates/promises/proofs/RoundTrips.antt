@@ -13,8 +13,8 @@ use Rattle.model.proofs.Lists.{split, bytes_drop}
 use Rattle.shelf.specs.Walk.{Block, Listing, posts_of, strip_of, list, lists, walk}
 use Rattle.shelf.specs.Check.{bad_body}
 use Rattle.lookup.specs.Find.{find_of, found}
-use Rattle.shelf.specs.declared.check.BadRead.{BadRead}
-use Rattle.shelf.specs.declared.check.BadRead.TheVariants.{BadAt, NoBad}
+use Rattle.std.specs.Prelude.{Option}
+use Rattle.std.specs.Prelude.{Some, None}
 use Rattle.shelf.proofs.Walks.{list-walked}
 use Rattle.lookup.proofs.Stands.{walk-lists, find_has}
 use Rattle.list.specs.Read.{held_by, in_room, read_blocks, read_list}
@@ -37,12 +37,12 @@ all-stand n floor at s (l ∷ ls) e =
     (record { floor = floor; reads = subst (λ (n : ℕ). list floor n (drop n s) ≡ done l) (sym w.start) i.reads; within = w.within }, all-stand (n - 1) (l.place.term + 1) l.place.next s ls i.left)
 
 -- a list that is read has no wrong body, and what is read are its postings
-read-posts : (bs : List Block) (d w : ℕ) (ps : List Post) → read_blocks bs d w ≡ done ps → (bad_body bs ≡ NoBad) × (posts_of bs ≡ ps)
+read-posts : (bs : List Block) (d w : ℕ) (ps : List Post) → read_blocks bs d w ≡ done ps → (bad_body bs ≡ None) × (posts_of bs ≡ ps)
 read-posts bs d w ps e = go (bad_body bs) refl e
   where
-    go : (r : BadRead) → bad_body bs ≡ r → and_then (held_by bs r) (in_room d w) ≡ done ps → (bad_body bs ≡ NoBad) × (posts_of bs ≡ ps)
-    go (BadAt at) b f = let z : ◌≡◌ {A = ℕ} 0 1 = cc in absurd (omega arith)
-    go NoBad b f =
+    go : (r : Option ℕ) → bad_body bs ≡ r → and_then (held_by bs r) (in_room d w) ≡ done ps → (bad_body bs ≡ None) × (posts_of bs ≡ ps)
+    go (Some at) b f = let z : ◌≡◌ {A = ℕ} 0 1 = cc in absurd (omega arith)
+    go None b f =
         split (leb (length (posts_of bs)) (min d w))
         (λ t. let g : done (posts_of bs) ≡ done ps = rw t at f in (b, cc))
         (λ t. let g : refused 9 0 ≡ done ps = rw t at f in let z : ◌≡◌ {A = ℕ} 0 1 = cc in absurd (omega arith))
@@ -52,7 +52,7 @@ module _ (s : List ℕ) (ls : List Listing) (h : Bytes s) (e : walk s ≡ done l
   stood = find_has (Stood s) t ls l f (all-stand 1024 0 0 s ls (walk-lists s ls e))
 
   -- the reader gives the postings of the list that was found
-  given : (d w : ℕ) (ps : List Post) → read_list t s d w ≡ done ps → (bad_body l.blocks ≡ NoBad) × (posts_of l.blocks ≡ ps)
+  given : (d w : ℕ) (ps : List Post) → read_list t s d w ≡ done ps → (bad_body l.blocks ≡ None) × (posts_of l.blocks ≡ ps)
   unfolding read_list found
   given d w ps r = read-posts l.blocks d w ps (rw (e, f) at r)
 

@@ -11,8 +11,8 @@ use Rattle.shelf.specs.Check.{bad_body, bad_lists, judged}
 use Rattle.lookup.specs.Find.{found}
 use Rattle.lookup.specs.Gather.{term_blocks}
 use Rattle.lookup.specs.Show.{block_of}
-use Rattle.shelf.specs.declared.check.BadRead.{BadRead}
-use Rattle.shelf.specs.declared.check.BadRead.TheVariants.{BadAt, NoBad}
+use Rattle.std.specs.Prelude.{Option}
+use Rattle.std.specs.Prelude.{Some, None}
 use Rattle.list.specs.Write.{fault_at, list_bytes}
 use Rattle.change.specs.Edits.{Edit}
 use Rattle.change.specs.Bytes.{pieces, joined, changed, in_range, there, within}
@@ -101,9 +101,9 @@ abbrev pub lists_on : List ℕ → List Listing
 lists_on s = lists_of (walk s)
 
 -- 8: "wrong body: its tag"
-abbrev pub body_fault : BadRead → Fault
-body_fault NoBad = done tt
-body_fault (BadAt at) = refused 8 at
+abbrev pub body_fault : Option ℕ → Fault
+body_fault None = done tt
+body_fault (Some at) = refused 8 at
 
 -- ---- "Checker 6/7, 8."
 abbrev pub check_faults : List ℕ → List Fault

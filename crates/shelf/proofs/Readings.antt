@@ -13,7 +13,7 @@ use Rattle.block.specs.Summary.{sum_of}
 use Rattle.block.specs.Body.{is_strip, right_body}
 use Rattle.block.specs.declared.summary.Summary.{Summary}
 use Rattle.shelf.specs.Check.{bad_body}
-use Rattle.shelf.specs.declared.check.BadRead.TheVariants.{BadAt, NoBad}
+use Rattle.std.specs.Prelude.{Some, None}
 use Rattle.shelf.specs.Walk.{Block, bodies_of, bodies, blocks_of, blocks_at}
 use Rattle.shelf.specs.Answers.{Stands, Ready}
 use Rattle.shelf.specs.Blocks.{reading_of, blocks_left, Rests, Finds}
@@ -98,10 +98,10 @@ module _ (s : List ℕ) (o r : Reading) (b : Block) (v e : ℕ) (next : Reading)
     first = c.first ∙ ap bad_body f.left ∙ rw (judged-by true h);
   }
 
-  pub judge-wrong : right_body m (take (e - v) (drop v s)) ≡ false → bad_body (blocks_left s o) ≡ BadAt (v - 3)
+  pub judge-wrong : right_body m (take (e - v) (drop v s)) ≡ false → bad_body (blocks_left s o) ≡ Some (v - 3)
   judge-wrong h =
       let at : b.body_at ≡ v - 3 = omega (arith, f.tag) in
       c.first ∙ ap bad_body f.left ∙ rw (judged-by false h, at)
 
-pub judge-none : (s : List ℕ) (o r : Reading) → blocks_left s r ≡ [] → Judging s o r → bad_body (blocks_left s o) ≡ NoBad
+pub judge-none : (s : List ℕ) (o r : Reading) → blocks_left s r ≡ [] → Judging s o r → bad_body (blocks_left s o) ≡ None
 judge-none s o r e c = c.first ∙ ap bad_body e

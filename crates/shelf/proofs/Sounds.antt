@@ -19,8 +19,8 @@ use Rattle.block.proofs.Contents.{right-body}
 use Rattle.shelf.specs.Walk.{Block, Listing, posts_of, head_term, head_count, right_head, one_sum, sums, bodies, blocks_of, listed, list, onto, lists, walk}
 use Rattle.shelf.specs.Check.{bad_body, or_else, bad_lists, verdict, checked}
 use Rattle.shelf.proofs.Walks.{any_strip, any_greatest, head_facts}
-use Rattle.shelf.specs.declared.check.BadRead.{BadRead}
-use Rattle.shelf.specs.declared.check.BadRead.TheVariants.{BadAt, NoBad}
+use Rattle.std.specs.Prelude.{Option}
+use Rattle.std.specs.Prelude.{Some, None}
 
 -- each block's summary is right after the block before it, and its body is right for it
 abbrev pub Good : ℕ → List Block → Type 0
@@ -31,7 +31,7 @@ bytes-value : (s : List ℕ) → Bytes s → Bytes (field_value s)
 unfolding field_value
 bytes-value s h = bytes_take (field_len s) (drop 3 s) (bytes_drop 3 s h)
 
-sums-good : (n prev a b e : ℕ) (m s : List ℕ) → Bytes s → sums n prev a m ≡ done e → bad_body (blocks_of n a m b s) ≡ NoBad → Good prev (blocks_of n a m b s)
+sums-good : (n prev a b e : ℕ) (m s : List ℕ) → Bytes s → sums n prev a m ≡ done e → bad_body (blocks_of n a m b s) ≡ None → Good prev (blocks_of n a m b s)
 unfolding sums one_sum blocks_of
 sums-good zero prev a b e m s h q f = tt
 sums-good (suc n) prev a b e m s h q f =
@@ -42,9 +42,9 @@ sums-good (suc n) prev a b e m s h q f =
     (λ r. split (right_body x (field_value s))
     (λ w.
     let q1 : sums n (sum_of false m).greatest (a + 12) (drop 12 m) ≡ done e = rw (i, r) at q in
-    let f1 : bad_body (blocks_of n (a + 12) (drop 12 m) (b + k) (drop k s)) ≡ NoBad = rw w at f in
+    let f1 : bad_body (blocks_of n (a + 12) (drop 12 m) (b + k) (drop k s)) ≡ None = rw w at f in
     (any_strip (is_strip s) prev m ∙ r, w, bytes-value s h, rw (any_greatest (is_strip s) m) (sums-good n (sum_of false m).greatest (a + 12) (b + k) e (drop 12 m) (drop k s) (bytes_drop k s h) q1 f1)))
-    (λ w. let g : BadAt b ≡ NoBad = rw w at f in let z : ◌≡◌ {A = ℕ} 0 1 = cc in absurd (omega arith)))
+    (λ w. let g : Some b ≡ None = rw w at f in let z : ◌≡◌ {A = ℕ} 0 1 = cc in absurd (omega arith)))
     (λ r. let g : refused 7 a ≡ done e = rw (i, r) at q in let z : ◌≡◌ {A = ℕ} 0 1 = cc in absurd (omega arith)))
     (λ i. let g : refused 6 a ≡ done e = rw i at q in let z : ◌≡◌ {A = ℕ} 0 1 = cc in absurd (omega arith))
 
@@ -52,7 +52,7 @@ sums-good (suc n) prev a b e m s h q f =
 
 abbrev GoodIf : (floor : ℕ) → Outcome Listing → Type 0
 GoodIf floor (refused n o) = Unit {0}
-GoodIf floor (done l) = (floor ≤ l.place.term) × (bad_body l.blocks ≡ NoBad → Good 0 l.blocks)
+GoodIf floor (done l) = (floor ≤ l.place.term) × (bad_body l.blocks ≡ None → Good 0 l.blocks)
 
 list-good : (floor at : ℕ) (s : List ℕ) → Bytes s → GoodIf floor (list floor at s)
 unfolding list
@@ -93,11 +93,11 @@ Listed floor (l ∷ ls) = (floor ≤ l.place.term) × Good 0 l.blocks × Listed 
 
 abbrev ListedIf : ℕ → Outcome (List Listing) → Type 0
 ListedIf floor (refused n o) = Unit {0}
-ListedIf floor (done ls) = bad_lists ls ≡ NoBad → Listed floor ls
+ListedIf floor (done ls) = bad_lists ls ≡ None → Listed floor ls
 
-pub or_none : (x y : BadRead) → or_else x y ≡ NoBad → (x ≡ NoBad) × (y ≡ NoBad)
-or_none (BadAt o) y e = let z : ◌≡◌ {A = ℕ} 0 1 = cc in absurd (omega arith)
-or_none NoBad y e = (refl, e)
+pub or_none : (x y : Option ℕ) → or_else x y ≡ None → (x ≡ None) × (y ≡ None)
+or_none (Some o) y e = let z : ◌≡◌ {A = ℕ} 0 1 = cc in absurd (omega arith)
+or_none None y e = (refl, e)
 
 listed_cons : (floor : ℕ) (l : Listing) (r : Outcome (List Listing)) → GoodIf floor (done l) → ListedIf (l.place.term + 1) r → ListedIf floor (onto l r)
 listed_cons floor l (refused n o) g h = tt
@@ -124,16 +124,16 @@ walk-good : (s : List ℕ) → Bytes s → ListedIf 0 (walk s)
 unfolding walk
 walk-good s h = split (leb (length s) 1048576) (λ e. rw e (lists-good 1024 0 0 s h)) (λ e. rw e tt)
 
-verdict-done : (ls ms : List Listing) (x : BadRead) → verdict ls x ≡ done ms → (x ≡ NoBad) × (ls ≡ ms)
-verdict-done ls ms (BadAt o) e = let z : ◌≡◌ {A = ℕ} 0 1 = cc in absurd (omega arith)
-verdict-done ls ms NoBad e = (refl, (cc))
+verdict-done : (ls ms : List Listing) (x : Option ℕ) → verdict ls x ≡ done ms → (x ≡ None) × (ls ≡ ms)
+verdict-done ls ms (Some o) e = let z : ◌≡◌ {A = ℕ} 0 1 = cc in absurd (omega arith)
+verdict-done ls ms None e = (refl, (cc))
 
 -- a sound shelf was walked to its end, and no body is wrong
-pub sound-walk : (s : List ℕ) (ls : List Listing) → checked s ≡ done ls → (walk s ≡ done ls) × (bad_lists ls ≡ NoBad)
+pub sound-walk : (s : List ℕ) (ls : List Listing) → checked s ≡ done ls → (walk s ≡ done ls) × (bad_lists ls ≡ None)
 unfolding checked
 sound-walk s ls e = go (walk s) refl e
   where
-    go : (r : Outcome (List Listing)) → walk s ≡ r → and_then r (λ ms. verdict ms (bad_lists ms)) ≡ done ls → (walk s ≡ done ls) × (bad_lists ls ≡ NoBad)
+    go : (r : Outcome (List Listing)) → walk s ≡ r → and_then r (λ ms. verdict ms (bad_lists ms)) ≡ done ls → (walk s ≡ done ls) × (bad_lists ls ≡ None)
     go (refused n o) w q = let z : ◌≡◌ {A = ℕ} 0 1 = cc in absurd (omega arith)
     go (done ms) w q = let v = verdict-done ms ls (bad_lists ms) q in (w ∙ ap done v.1, rw v.1 at v.0)
 
@@ -141,5 +141,5 @@ sound-walk s ls e = go (walk s) refl e
 pub sound-good : (s : List ℕ) (ls : List Listing) → Bytes s → checked s ≡ done ls → Listed 0 ls
 sound-good s ls h e =
     let w = sound-walk s ls e in
-    let good : bad_lists ls ≡ NoBad → Listed 0 ls = rw w.0 at (walk-good s h) in
+    let good : bad_lists ls ≡ None → Listed 0 ls = rw w.0 at (walk-good s h) in
     good w.1

@@ -11,13 +11,12 @@ use Rattle.model.specs.Limits.{max_shelf}
 use Rattle.model.specs.Outcome.{Outcome, refused, done}
 use Rattle.model.proofs.Lists.{split, rest_cons, rest-none}
 use Rattle.shelf.specs.Walk.{Block, Listing, blocks_at, list, onto, lists, walk}
-use Rattle.shelf.specs.Answers.{list_of, Ready}
+use Rattle.shelf.specs.Answers.{placed, Ready}
 use Rattle.shelf.specs.Cursor.{start, past, stepped, step_of, walk_step, lists_at, listing_at}
 use Rattle.shelf.specs.declared.walk.Place.{Place}
-use Rattle.shelf.specs.declared.walk.ListRead.TheVariants.{Is, Not}
 use Rattle.shelf.specs.declared.walk.Walk.{Walk}
-use Rattle.shelf.specs.declared.walk.WalkStep.{WalkStep}
-use Rattle.shelf.specs.declared.walk.WalkStep.TheVariants as step
+use Rattle.shelf.specs.Step.{WalkStep}
+use Rattle.shelf.specs.Step as step
 use Rattle.shelf.proofs.Walks.{Walked, list-is, list-not, list-walked, lists-none, lists_full, lists-step, lists-stop}
 
 -- ---- the step, by its tests
@@ -47,12 +46,12 @@ module _ (s : List ℕ) (w : Walk) where
       step-more z =
           rw (le-leb (length s) max_shelf small, rest_cons s w.at some) (one_more w.left w.floor w.at (get_or s w.at 0) (drop (w.at + 1) s) z)
 
-      pub step-list : (w.left ≡ 0 → ⊥) → (p : Place) → list_of (list w.floor w.at (drop w.at s)) ≡ Is p → walk_step s w ≡ step.List p (past (w.left - 1) p)
+      pub step-list : (w.left ≡ 0 → ⊥) → (p : Place) → placed (list w.floor w.at (drop w.at s)) ≡ done p → walk_step s w ≡ step.List p (past (w.left - 1) p)
       step-list z p e =
           let i = list-is (list w.floor w.at (drop w.at s)) p e in
           rw (step-more z, i.1, i.2)
 
-      pub step-not : (w.left ≡ 0 → ⊥) → (k o : ℕ) → list_of (list w.floor w.at (drop w.at s)) ≡ Not k o → walk_step s w ≡ step.Fault k o
+      pub step-not : (w.left ≡ 0 → ⊥) → (k o : ℕ) → placed (list w.floor w.at (drop w.at s)) ≡ refused k o → walk_step s w ≡ step.Fault k o
       step-not z k o e = rw (step-more z, list-not (list w.floor w.at (drop w.at s)) k o e)
 
 -- ---- what is left of the walk, by the step

@@ -21,27 +21,17 @@ use Rattle.block.specs.Body.{is_strip, tag_of}
 use Rattle.block.specs.declared.summary.Summary.{Summary}
 use Rattle.block.proofs.Summaries.{sum_room}
 use Rattle.shelf.specs.Walk.{Listing, head_term, head_count, right_head, one_sum, sums, one_body, bodies_of, bodies, blocks_at, listed, list, onto, lists}
-use Rattle.shelf.specs.Answers.{head_at, place_of, list_of, Ready}
+use Rattle.shelf.specs.Answers.{head_at, placed, Ready}
 use Rattle.shelf.specs.declared.walk.Place.{Place}
-use Rattle.shelf.specs.declared.walk.HeadRead.TheVariants.{Head, NoHead}
-use Rattle.shelf.specs.declared.walk.PlaceRead.TheVariants.{Past, Refused}
-use Rattle.shelf.specs.declared.walk.ListRead.TheVariants.{Is, Not}
+use Rattle.std.specs.Prelude.{Some, None}
 
 -- ---- from a private answer back to the outcome
 
-pub place-past : (r : Outcome ℕ) (p : ℕ) → place_of r ≡ Past p → r ≡ done p
-place-past (done q) p e = let f : q ≡ p = cc in rw f
-place-past (refused n o) p e = let z : ◌≡◌ {A = ℕ} 0 1 = cc in absurd (omega arith)
-
-pub place-refused : (r : Outcome ℕ) (n o : ℕ) → place_of r ≡ Refused n o → r ≡ refused n o
-place-refused (done q) n o e = let z : ◌≡◌ {A = ℕ} 0 1 = cc in absurd (omega arith)
-place-refused (refused m q) n o e = let f : m ≡ n = cc in let g : q ≡ o = cc in rw (f, g)
-
-pub list-is : (r : Outcome Listing) (p : Place) → list_of r ≡ Is p → (l : Listing) × (r ≡ done l) × (l.place ≡ p)
+pub list-is : (r : Outcome Listing) (p : Place) → placed r ≡ done p → (l : Listing) × (r ≡ done l) × (l.place ≡ p)
 list-is (done l) p e = (l, refl, (cc))
 list-is (refused n o) p e = let z : ◌≡◌ {A = ℕ} 0 1 = cc in absurd (omega arith)
 
-pub list-not : (r : Outcome Listing) (n o : ℕ) → list_of r ≡ Not n o → r ≡ refused n o
+pub list-not : (r : Outcome Listing) (n o : ℕ) → placed r ≡ refused n o → r ≡ refused n o
 list-not (done l) n o e = let z : ◌≡◌ {A = ℕ} 0 1 = cc in absurd (omega arith)
 list-not (refused m q) n o e = let f : m ≡ n = cc in let g : q ≡ o = cc in rw (f, g)
 
@@ -56,47 +46,50 @@ unfolding head_count
 count_at s at = rw (drop-drop 7 at s)
 
 module _ (floor : ℕ) (s : List ℕ) (at : ℕ) where
-  pub head-none : field_at 1 s at ≡ None → head_at floor s at ≡ NoHead
+  pub head-none : field_at 1 s at ≡ None → head_at floor s at ≡ None
   unfolding head_at right_head
   head-none e = rw (field-not 1 s at e)
 
-  pub head-other : (n : ℕ) → field_at 1 s at ≡ Some n → (n ≡ 5 → ⊥) → head_at floor s at ≡ NoHead
+  pub head-other : (n : ℕ) → field_at 1 s at ≡ Some n → (n ≡ 5 → ⊥) → head_at floor s at ≡ None
   unfolding head_at right_head
   head-other n e z =
       let i = field_is 1 s at n e in
       rw (i.0, i.1, ne_eqb n 5 z)
 
   module _ (n t k : ℕ) (e : field_at 1 s at ≡ Some n) (five : n ≡ 5) (te : t ≡ num 4 (drop (at + 3) s)) (ke : k ≡ num 1 (drop (at + 7) s)) where
-    numbers : head_at floor s at ≡ cond (leb floor t && (ltb 0 k && leb k 64)) (Head t k) NoHead
+    numbers : head_at floor s at ≡ cond (leb floor t && (ltb 0 k && leb k 64)) (Some (t, k)) None
     unfolding head_at right_head
     numbers =
         let i = field_is 1 s at n e in
         rw (i.0, i.1, eq-eqb n 5 five, term-at s at, count_at s at, te, ke)
 
-    pub head_low : t < floor → head_at floor s at ≡ NoHead
+    pub head_low : t < floor → head_at floor s at ≡ None
     head_low h = rw (numbers, lt-leb floor t h)
 
-    pub head-zero : floor ≤ t → k ≡ 0 → head_at floor s at ≡ NoHead
+    pub head-zero : floor ≤ t → k ≡ 0 → head_at floor s at ≡ None
     head-zero h z = rw (numbers, le-leb floor t h, le-ltb 0 k (omega arith))
 
-    pub head_many : floor ≤ t → (k ≡ 0 → ⊥) → 64 < k → head_at floor s at ≡ NoHead
+    pub head_many : floor ≤ t → (k ≡ 0 → ⊥) → 64 < k → head_at floor s at ≡ None
     head_many h z m = rw (numbers, le-leb floor t h, lt-ltb 0 k (omega arith), lt-leb k 64 m)
 
-    pub head-there : floor ≤ t → (k ≡ 0 → ⊥) → k ≤ 64 → head_at floor s at ≡ Head t k
+    pub head-there : floor ≤ t → (k ≡ 0 → ⊥) → k ≤ 64 → head_at floor s at ≡ Some (t, k)
     head-there h z m = rw (numbers, le-leb floor t h, lt-ltb 0 k (omega arith), le-leb k 64 m)
 
-  pub head-found : (t k : ℕ) → head_at floor s at ≡ Head t k → (right_head floor (drop at s) ≡ true) × (head_term (drop at s) ≡ t) × (head_count (drop at s) ≡ k)
+  pub head-found : (t k : ℕ) → head_at floor s at ≡ Some (t, k) → (right_head floor (drop at s) ≡ true) × (head_term (drop at s) ≡ t) × (head_count (drop at s) ≡ k)
   unfolding head_at
   head-found t k e =
       split (right_head floor (drop at s))
-      (λ w. let q : Head (head_term (drop at s)) (head_count (drop at s)) ≡ Head t k = rw w at e in (w, (cc), (cc)))
-      (λ w. let q : NoHead ≡ Head t k = rw w at e in let z : ◌≡◌ {A = ℕ} 0 1 = cc in absurd (omega arith))
+      (λ w.
+      let q : Some (head_term (drop at s), head_count (drop at s)) ≡ Some (t, k) = rw w at e in
+      let f : (head_term (drop at s), head_count (drop at s)) ≡ (t, k) = cc in
+      (w, ap (λ (x : ℕ × ℕ). x.0) f, ap (λ (x : ℕ × ℕ). x.1) f))
+      (λ w. let q : None ≡ Some (t, k) = rw w at e in let z : ◌≡◌ {A = ℕ} 0 1 = cc in absurd (omega arith))
 
-  pub head_missing : head_at floor s at ≡ NoHead → right_head floor (drop at s) ≡ false
+  pub head_missing : head_at floor s at ≡ None → right_head floor (drop at s) ≡ false
   unfolding head_at
   head_missing e =
       split (right_head floor (drop at s))
-      (λ w. let q : Head (head_term (drop at s)) (head_count (drop at s)) ≡ NoHead = rw w at e in let z : ◌≡◌ {A = ℕ} 0 1 = cc in absurd (omega arith))
+      (λ w. let q : Some ((head_term (drop at s)), (head_count (drop at s))) ≡ None = rw w at e in let z : ◌≡◌ {A = ℕ} 0 1 = cc in absurd (omega arith))
       (λ w. w)
 
 pub head-room : (floor : ℕ) (s : List ℕ) → right_head floor s ≡ true → 8 ≤ length s
@@ -359,28 +352,28 @@ module _ (n floor at : ℕ) (s : List ℕ) where
 -- ---- the list at a place, by what its parts were found to be
 
 module _ (floor at : ℕ) (s : List ℕ) where
-  pub list_no_head : head_at floor s at ≡ NoHead → list_of (list floor at (drop at s)) ≡ Not 6 at
+  pub list_no_head : head_at floor s at ≡ None → placed (list floor at (drop at s)) ≡ refused 6 at
   list_no_head e = rw (list_headless floor at (drop at s) (head_missing floor s at e))
 
-  module _ (t n : ℕ) (e : head_at floor s at ≡ Head t n) where
+  module _ (t n : ℕ) (e : head_at floor s at ≡ Some (t, n)) where
     parts : list floor at (drop at s)
         ≡ and_then (sums n 0 (at + 8) (drop (at + 8) s)) (λ b. and_then (bodies n b (drop (at + 8 + 12 * n) s)) (λ next. done (listed at next (drop at s))))
     parts = let f = head-found floor s at t n e in rw (list-parts floor at s f.0, f.2)
 
-    pub list_no_sums : (k o : ℕ) → place_of (sums n 0 (at + 8) (drop (at + 8) s)) ≡ Refused k o → list_of (list floor at (drop at s)) ≡ Not k o
-    list_no_sums k o q = rw (parts, place-refused (sums n 0 (at + 8) (drop (at + 8) s)) k o q)
+    pub list_no_sums : (k o : ℕ) → sums n 0 (at + 8) (drop (at + 8) s) ≡ refused k o → placed (list floor at (drop at s)) ≡ refused k o
+    list_no_sums k o q = rw (parts, q)
 
-    module _ (b : ℕ) (q : place_of (sums n 0 (at + 8) (drop (at + 8) s)) ≡ Past b) where
+    module _ (b : ℕ) (q : sums n 0 (at + 8) (drop (at + 8) s) ≡ done b) where
       summed : list floor at (drop at s) ≡ and_then (bodies n b (drop b s)) (λ next. done (listed at next (drop at s)))
       summed =
-          let r = place-past (sums n 0 (at + 8) (drop (at + 8) s)) b q in
+          let r = q in
           let p = sums-place n 0 (at + 8) (drop (at + 8) s) b r in
           rw (parts, r, ← p.0)
 
-      pub list_no_bodies : (k o : ℕ) → place_of (bodies n b (drop b s)) ≡ Refused k o → list_of (list floor at (drop at s)) ≡ Not k o
-      list_no_bodies k o r = rw (summed, place-refused (bodies n b (drop b s)) k o r)
+      pub list_no_bodies : (k o : ℕ) → bodies n b (drop b s) ≡ refused k o → placed (list floor at (drop at s)) ≡ refused k o
+      list_no_bodies k o r = rw (summed, r)
 
-      pub list-whole : (next : ℕ) → place_of (bodies n b (drop b s)) ≡ Past next → list_of (list floor at (drop at s)) ≡ Is (record { term = t; count = n; at = at; next = next })
+      pub list-whole : (next : ℕ) → bodies n b (drop b s) ≡ done next → placed (list floor at (drop at s)) ≡ done (record { term = t; count = n; at = at; next = next })
       list-whole next r =
           let f = head-found floor s at t n e in
-          rw (summed, place-past (bodies n b (drop b s)) next r, f.1, f.2)
+          rw (summed, r, f.1, f.2)

@@ -1,26 +1,17 @@
 -- The private answers of the walk's code, by the walk's definitions. Assumes nothing.
-use Rattle.std.specs.Prelude.{ℕ, ◌+◌, ◌*◌, ◌≤◌, ◌≡◌, List, cond, length, drop}
+use Rattle.std.specs.Prelude.{ℕ, ◌+◌, ◌*◌, ◌≤◌, ◌≡◌, List, cond, length, drop, Option, Some, None}
 use Rattle.model.specs.Limits.{per_list}
 use Rattle.model.specs.Outcome.{Outcome, refused, done}
 use Rattle.shelf.specs.Walk.{Listing, head_term, head_count, right_head, bodies}
 use Rattle.shelf.specs.declared.walk.Place.{Place}
-use Rattle.shelf.specs.declared.walk.HeadRead.{HeadRead}
-use Rattle.shelf.specs.declared.walk.HeadRead.TheVariants.{Head, NoHead}
-use Rattle.shelf.specs.declared.walk.PlaceRead.{PlaceRead}
-use Rattle.shelf.specs.declared.walk.PlaceRead.TheVariants.{Past, Refused}
-use Rattle.shelf.specs.declared.walk.ListRead.{ListRead}
-use Rattle.shelf.specs.declared.walk.ListRead.TheVariants.{Is, Not}
 
-unfoldable pub head_at : (floor : ℕ) → List ℕ → ℕ → HeadRead
-head_at floor s at = cond (right_head floor (drop at s)) (Head (head_term (drop at s)) (head_count (drop at s))) NoHead
+unfoldable pub head_at : (floor : ℕ) → List ℕ → ℕ → Option (ℕ × ℕ)
+head_at floor s at = cond (right_head floor (drop at s)) (Some (head_term (drop at s), head_count (drop at s))) None
 
-abbrev pub place_of : Outcome ℕ → PlaceRead
-place_of (done p) = Past p
-place_of (refused n o) = Refused n o
-
-abbrev pub list_of : Outcome Listing → ListRead
-list_of (done l) = Is l.place
-list_of (refused n o) = Not n o
+-- a list's place, of the walk's answer
+abbrev pub placed : Outcome Listing → Outcome Place
+placed (done l) = done l.place
+placed (refused n o) = refused n o
 
 -- a list of `count` blocks that was walked: there is room for its summaries, and its bodies are whole, up to `next`
 pub record Stands (s : List ℕ) (at count next : ℕ) : Type 0 where

@@ -1,11 +1,10 @@
 -- The blocks of a list, one after another: what is left of them at a reading place. Assumes nothing.
-use Rattle.std.specs.Prelude.{ℕ, ◌+◌, ◌-◌, ◌*◌, ◌≤◌, ◌<◌, ◌≡◌, Bool, List, [], ◌∷◌, length, take, drop}
+use Rattle.std.specs.Prelude.{ℕ, ◌+◌, ◌-◌, ◌*◌, ◌≤◌, ◌<◌, ◌≡◌, Bool, List, [], ◌∷◌, length, take, drop, Option, Some, None}
 use Rattle.model.specs.Outcome.{done}
 use Rattle.shelf.specs.Walk.{Block, bodies_of, blocks_of}
 use Rattle.shelf.specs.declared.walk.Place.{Place}
 use Rattle.shelf.specs.declared.blocks.Reading.{Reading}
-use Rattle.shelf.specs.declared.blocks.BlockStep.{BlockStep}
-use Rattle.shelf.specs.declared.blocks.BlockStep.TheVariants.{Block as Found, Last}
+use Rattle.shelf.specs.declared.blocks.BlockAt.{BlockAt}
 
 -- before the first block of a list
 abbrev pub reading_of : Place → Reading
@@ -33,6 +32,7 @@ pub record Finds (s : List ℕ) (r : Reading) (b : Block) (v e : ℕ) (next : Re
   pub tag : b.body_at + 3 ≡ v
   pub body : b.body ≡ take (e - v) (drop v s)
 
-abbrev pub Steps : List ℕ → Reading → BlockStep → Type 0
-Steps s r (Found m v e next) = (b : Block) × (b.sum ≡ m) × Finds s r b v e next
-Steps s r Last = (blocks_left s r ≡ []) × (r.left ≡ 0)
+-- what the next step gives, and what is left after it
+abbrev pub Steps : List ℕ → Reading → Option BlockAt → Reading → Type 0
+Steps s r (Some x) next = (b : Block) × (b.sum ≡ x.summary) × Finds s r b x.start x.end next
+Steps s r None next = (blocks_left s r ≡ []) × (r.left ≡ 0) × (next ≡ r)

@@ -1,12 +1,14 @@
 -- The walk as a place that is handed on, list by list. Assumes nothing.
-use Rattle.std.specs.Prelude.{ℕ, zero, suc, ◌+◌, List, [], ◌∷◌, cond, leb, length, drop}
+use Rattle.std.specs.Prelude.{ℕ, zero, suc, ◌+◌, List, [], ◌∷◌, cond, leb, length, drop, ◌≡◌, Option, Some, None, Result, Ok, Err}
 use Rattle.model.specs.Limits.{max_lists, max_shelf}
 use Rattle.model.specs.Outcome.{Outcome, refused, done}
+use Rattle.model.specs.Refusal.{number}
+use Rattle.model.specs.declared.refusal.Refusal.{Refusal}
 use Rattle.shelf.specs.Walk.{Listing, blocks_at, list, lists}
 use Rattle.shelf.specs.declared.walk.Place.{Place}
 use Rattle.shelf.specs.declared.walk.Walk.{Walk}
-use Rattle.shelf.specs.declared.walk.WalkStep.{WalkStep}
-use Rattle.shelf.specs.declared.walk.WalkStep.TheVariants as step
+use Rattle.shelf.specs.Step.{WalkStep}
+use Rattle.shelf.specs.Step as step
 
 -- before the first list
 unfoldable pub start : Walk
@@ -29,6 +31,12 @@ step_of (suc n) floor at (b ∷ s) = stepped n (list floor at (b ∷ s))
 -- what the walk finds at a place; "shelf over 1,048,576 bytes (offset 0)"
 unfoldable pub walk_step : List ℕ → Walk → WalkStep
 walk_step s w = cond (leb (length s) max_shelf) (step_of w.left w.floor w.at (drop w.at s)) (step.Fault 6 0)
+
+-- what the walk's next answer is, and the walk past it: where no list is found it stays
+abbrev pub Walks : WalkStep → Result (Option Place) Refusal → Walk → Type 0
+Walks found (Ok (Some p)) w = found ≡ step.List p w
+Walks found (Ok None) w = found ≡ step.End
+Walks found (Err r) w = found ≡ step.Fault (number r.fault) r.offset
 
 -- what is left of the walk
 unfoldable pub lists_at : List ℕ → Walk → Outcome (List Listing)

@@ -13,11 +13,12 @@ pub struct Reading {
     pub left: u8,
 }
 
-// A block: its summary, where its body's value starts and ends, and the place past it; or there is none left.
-#[derive(Drop)]
-pub enum BlockStep {
-    Block(Summary, usize, usize, Reading),
-    Last,
+// A block on the shelf: its summary, and where its body's value starts and ends.
+#[derive(Clone, Copy)]
+pub struct BlockAt {
+    pub summary: Summary,
+    pub start: usize,
+    pub end: usize,
 }
 
 impl Reading {
@@ -29,34 +30,35 @@ impl Reading {
         let sum = list.at + 8;
         let left = list.count;
         Reading {
-            sum: sum,
+            sum,
             body: sum + 12 * (left as usize),
-            left: left,
+            left,
         }
     }
 
-    pub fn next(self, s: &[u8]) -> BlockStep
-        requires { Rests s.now self }
-        ensures { Steps s.now self result }
+    // The next block, if one is left.
+    pub fn next(&mut self, s: &[u8]) -> Option<BlockAt>
+        requires { Rests s.now self.old }
+        ensures { Steps s.now self.old result self.new }
     {
         let left = self.left;
         if left == 0 {
-            return BlockStep::Last;
+            return None;
         }
         let a = self.sum;
         let b = self.body;
-        let v = b + 3;
-        let e = v + wire::number::be2(s, b + 1) as usize;
-        let m = block::summary::summary_in(s, a, block::body::is_strip(s, b));
-        BlockStep::Block(
-            m,
-            v,
-            e,
-            Reading {
-                sum: a + 12,
-                body: e,
-                left: left - 1,
-            },
-        )
+        let start = b + 3;
+        let end = start + wire::number::be2(s, b + 1) as usize;
+        let summary = block::summary::summary_in(s, a, block::body::is_strip(s, b));
+        *self = Reading {
+            sum: a + 12,
+            body: end,
+            left: left - 1,
+        };
+        Some(BlockAt {
+            summary,
+            start,
+            end,
+        })
     }
 }

@@ -2,8 +2,7 @@
 use lib.ListN.{drop, length}
 use Prim.Native.Nat.{◌<◌, ◌≤◌}
 use Rattle.shelf.specs.Walk.{list}
-use Rattle.shelf.specs.Answers.{list_of}
-use Rattle.shelf.specs.declared.walk.ListRead.TheVariants.{Is, Not}
+use Rattle.shelf.specs.Answers.{placed}
 use native.Mathlib.Omega.{arith}
 use mathlib.Core.Path.{◌≡◌}
 use Rattle.change.proofs.Seats.{list-onward, seat_start, seat_end, seat_never, seat_before, seat_here, seat_on}
@@ -14,37 +13,37 @@ loop-at-init c = (omega arith, λ ls e. seat_start c.args.s.now c.args.term ls e
 
 pub returns-then-term-p : goal.returns-then-term-p
 returns-then-term-p c =
-    let found : list_of (list c.loop-at.floor c.loop-at.at (drop c.loop-at.at c.args.s.now)) ≡ Is c.in-Is.p = cc in
+    let found : placed (list c.loop-at.floor c.loop-at.at (drop c.loop-at.at c.args.s.now)) ≡ done c.in-Ok.p = cc in
     let l = c.loop-at in
-    λ ls e. seat_before c.args.s.now c.args.term ls l.floor l.at (l.invariant.1 ls e) c.in-Is.p c.loop-at-test.true (found) c.if-term-p.true
+    λ ls e. seat_before c.args.s.now c.args.term ls l.floor l.at (l.invariant.1 ls e) c.in-Ok.p c.loop-at-test.true (found) c.if-term-p.true
 
 pub returns-then-term-p-2 : goal.returns-then-term-p-2
 returns-then-term-p-2 c =
-    let found : list_of (list c.loop-at.floor c.loop-at.at (drop c.loop-at.at c.args.s.now)) ≡ Is c.in-Is.p = cc in
+    let found : placed (list c.loop-at.floor c.loop-at.at (drop c.loop-at.at c.args.s.now)) ≡ done c.in-Ok.p = cc in
     let l = c.loop-at in
-    λ ls e. seat_here c.args.s.now c.args.term ls l.floor l.at (l.invariant.1 ls e) c.in-Is.p c.loop-at-test.true (found) c.if-term-p-2.true
+    λ ls e. seat_here c.args.s.now c.args.term ls l.floor l.at (l.invariant.1 ls e) c.in-Ok.p c.loop-at-test.true (found) c.if-term-p-2.true
 
 pub loop-at-smaller : goal.loop-at-smaller
 loop-at-smaller c =
-    let found : list_of (list c.loop-at.floor c.loop-at.at (drop c.loop-at.at c.args.s.now)) ≡ Is c.in-Is.p = cc in
-    let onward : (c.loop-at.at < c.in-Is.p.next) × (c.in-Is.p.next ≤ length c.args.s.now) = let l = c.loop-at in
-    list-onward l.floor l.at c.args.s.now c.in-Is.p (found) in
+    let found : placed (list c.loop-at.floor c.loop-at.at (drop c.loop-at.at c.args.s.now)) ≡ done c.in-Ok.p = cc in
+    let onward : (c.loop-at.at < c.in-Ok.p.next) × (c.in-Ok.p.next ≤ length c.args.s.now) = let l = c.loop-at in
+    list-onward l.floor l.at c.args.s.now c.in-Ok.p (found) in
     omega (arith, (onward).0, (onward).1)
 
 pub loop-at-preserved : goal.loop-at-preserved
 loop-at-preserved c =
-    let found : list_of (list c.loop-at.floor c.loop-at.at (drop c.loop-at.at c.args.s.now)) ≡ Is c.in-Is.p = cc in
-    let onward : (c.loop-at.at < c.in-Is.p.next) × (c.in-Is.p.next ≤ length c.args.s.now) = let l = c.loop-at in
-    list-onward l.floor l.at c.args.s.now c.in-Is.p (found) in
+    let found : placed (list c.loop-at.floor c.loop-at.at (drop c.loop-at.at c.args.s.now)) ≡ done c.in-Ok.p = cc in
+    let onward : (c.loop-at.at < c.in-Ok.p.next) × (c.in-Ok.p.next ≤ length c.args.s.now) = let l = c.loop-at in
+    list-onward l.floor l.at c.args.s.now c.in-Ok.p (found) in
     let l = c.loop-at in
-    let above : c.in-Is.p.term < c.args.term = omega (arith, c.if-term-p-2.false, c.if-term-p.false) in
-    ((onward).1, λ ls e. seat_on c.args.s.now c.args.term ls l.floor l.at (l.invariant.1 ls e) c.in-Is.p c.loop-at-test.true (found) above)
+    let above : c.in-Ok.p.term < c.args.term = omega (arith, c.if-term-p-2.false, c.if-term-p.false) in
+    ((onward).1, λ ls e. seat_on c.args.s.now c.args.term ls l.floor l.at (l.invariant.1 ls e) c.in-Ok.p c.loop-at-test.true (found) above)
 
-pub returns-in-Not : goal.returns-in-Not
-returns-in-Not c =
+pub returns-in-Err : goal.returns-in-Err
+returns-in-Err c =
     let l = c.loop-at in
-    let f : list_of (list l.floor l.at (drop l.at c.args.s.now)) ≡ Not c.in-Not.n c.in-Not.o = cc in
-    λ ls e. seat_never c.args.s.now c.args.term ls l.floor l.at (l.invariant.1 ls e) c.loop-at-test.true c.in-Not.n c.in-Not.o f
+    let f : placed (list l.floor l.at (drop l.at c.args.s.now)) ≡ refused c.in-Err.n c.in-Err.o = cc in
+    λ ls e. seat_never c.args.s.now c.args.term ls l.floor l.at (l.invariant.1 ls e) c.loop-at-test.true c.in-Err.n c.in-Err.o f
 
 pub returns : goal.returns
 returns c =

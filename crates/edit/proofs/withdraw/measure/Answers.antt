@@ -5,8 +5,7 @@ use Prim.Native.Nat.{◌*◌, ◌-◌, ◌≤◌, ◌<◌}
 use lib.ListN.{length, drop}
 use Rattle.shelf.specs.Walk.{list}
 use Rattle.shelf.specs.Check.{checked}
-use Rattle.shelf.specs.Answers.{list_of}
-use Rattle.shelf.specs.declared.walk.ListRead.TheVariants.{Is, Not}
+use Rattle.shelf.specs.Answers.{placed}
 use Rattle.edit.specs.Left.{left_bytes}
 use Rattle.change.proofs.Seats.{list-onward}
 use Rattle.change.proofs.Pieces.{checked-sound, judged-lists}
@@ -19,45 +18,45 @@ loop-at-init c =
 
 pub list_left-l-requires : goal.list_left-l-requires
 list_left-l-requires c =
-    let found : list_of (list c.loop-at.floor c.loop-at.at (drop c.loop-at.at c.args.s.now)) ≡ Is c.in-Is.p = cc in
+    let found : placed (list c.loop-at.floor c.loop-at.at (drop c.loop-at.at c.args.s.now)) ≡ done c.in-Ok.p = cc in
     let l = c.loop-at in
     let j = judged-lists (checked c.args.s.now) c.requires.0 in
-    (add_goes c.args.s.now c.args.d j.0 l.floor l.at l.bytes l.held (l.invariant.3 j.0 j.1) c.in-Is.p c.loop-at-test.true (found)).ready l.docs l.scores l.invariant.2
+    (add_goes c.args.s.now c.args.d j.0 l.floor l.at l.bytes l.held (l.invariant.3 j.0 j.1) c.in-Ok.p c.loop-at-test.true (found)).ready l.docs l.scores l.invariant.2
 
 pub overflow_add-bytes : goal.overflow_add-bytes
 overflow_add-bytes c =
-    let found : list_of (list c.loop-at.floor c.loop-at.at (drop c.loop-at.at c.args.s.now)) ≡ Is c.in-Is.p = cc in
-    let onward : (c.loop-at.at < c.in-Is.p.next) × (c.in-Is.p.next ≤ length c.args.s.now) = list-onward c.loop-at.floor c.loop-at.at c.args.s.now c.in-Is.p (found) in
-    let small : length (left_bytes c.args.s.now c.in-Is.p c.args.d) ≤ 45769 * (c.in-Is.p.next - c.loop-at.at) = let q = list-starts c.loop-at.floor c.loop-at.at c.args.s.now c.in-Is.p (found) in
-    omega (arith, left-small c.args.s.now c.in-Is.p c.args.d (omega (arith, (onward).0)) (onward).1, (onward).0) in
+    let found : placed (list c.loop-at.floor c.loop-at.at (drop c.loop-at.at c.args.s.now)) ≡ done c.in-Ok.p = cc in
+    let onward : (c.loop-at.at < c.in-Ok.p.next) × (c.in-Ok.p.next ≤ length c.args.s.now) = list-onward c.loop-at.floor c.loop-at.at c.args.s.now c.in-Ok.p (found) in
+    let small : length (left_bytes c.args.s.now c.in-Ok.p c.args.d) ≤ 45769 * (c.in-Ok.p.next - c.loop-at.at) = let q = list-starts c.loop-at.floor c.loop-at.at c.args.s.now c.in-Ok.p (found) in
+    omega (arith, left-small c.args.s.now c.in-Ok.p c.args.d (omega (arith, (onward).0)) (onward).1, (onward).0) in
     let j = judged-lists (checked c.args.s.now) c.requires.0 in
     omega (arith, c.loop-at.invariant.0, c.loop-at.invariant.1, small, c.list_left-l.ensures.bytes, (onward).0, (onward).1, (checked-sound c.args.s.now j.0 j.1).short)
 
 pub loop-at-smaller : goal.loop-at-smaller
 loop-at-smaller c =
-    let found : list_of (list c.loop-at.floor c.loop-at.at (drop c.loop-at.at c.args.s.now)) ≡ Is c.in-Is.p = cc in
-    let onward : (c.loop-at.at < c.in-Is.p.next) × (c.in-Is.p.next ≤ length c.args.s.now) = list-onward c.loop-at.floor c.loop-at.at c.args.s.now c.in-Is.p (found) in
+    let found : placed (list c.loop-at.floor c.loop-at.at (drop c.loop-at.at c.args.s.now)) ≡ done c.in-Ok.p = cc in
+    let onward : (c.loop-at.at < c.in-Ok.p.next) × (c.in-Ok.p.next ≤ length c.args.s.now) = list-onward c.loop-at.floor c.loop-at.at c.args.s.now c.in-Ok.p (found) in
     omega (arith, (onward).0, (onward).1)
 
 pub loop-at-preserved : goal.loop-at-preserved
 loop-at-preserved c =
-    let found : list_of (list c.loop-at.floor c.loop-at.at (drop c.loop-at.at c.args.s.now)) ≡ Is c.in-Is.p = cc in
-    let onward : (c.loop-at.at < c.in-Is.p.next) × (c.in-Is.p.next ≤ length c.args.s.now) = list-onward c.loop-at.floor c.loop-at.at c.args.s.now c.in-Is.p (found) in
-    let small : length (left_bytes c.args.s.now c.in-Is.p c.args.d) ≤ 45769 * (c.in-Is.p.next - c.loop-at.at) = let q = list-starts c.loop-at.floor c.loop-at.at c.args.s.now c.in-Is.p (found) in
-    omega (arith, left-small c.args.s.now c.in-Is.p c.args.d (omega (arith, (onward).0)) (onward).1, (onward).0) in
+    let found : placed (list c.loop-at.floor c.loop-at.at (drop c.loop-at.at c.args.s.now)) ≡ done c.in-Ok.p = cc in
+    let onward : (c.loop-at.at < c.in-Ok.p.next) × (c.in-Ok.p.next ≤ length c.args.s.now) = list-onward c.loop-at.floor c.loop-at.at c.args.s.now c.in-Ok.p (found) in
+    let small : length (left_bytes c.args.s.now c.in-Ok.p c.args.d) ≤ 45769 * (c.in-Ok.p.next - c.loop-at.at) = let q = list-starts c.loop-at.floor c.loop-at.at c.args.s.now c.in-Ok.p (found) in
+    omega (arith, left-small c.args.s.now c.in-Ok.p c.args.d (omega (arith, (onward).0)) (onward).1, (onward).0) in
     let l = c.loop-at in
     let f = c.list_left-l.ensures in (
       omega (arith, l.invariant.0, small, f.bytes, (onward).0),
       (onward).1,
       record { docids = omega (arith, l.invariant.2.docids); scored = omega (arith, l.invariant.2.scored) },
-      λ ls e. add-on c.args.s.now c.args.d ls l.floor l.at l.bytes l.held (l.invariant.3 ls e) c.in-Is.p c.list_left-l.result c.loop-at-test.true (found) f,
+      λ ls e. add-on c.args.s.now c.args.d ls l.floor l.at l.bytes l.held (l.invariant.3 ls e) c.in-Ok.p c.list_left-l.result c.loop-at-test.true (found) f,
     )
 
-pub returns-in-Not : goal.returns-in-Not
-returns-in-Not c =
+pub returns-in-Err : goal.returns-in-Err
+returns-in-Err c =
     let l = c.loop-at in
-    let f : list_of (list l.floor l.at (drop l.at c.args.s.now)) ≡ Not c.in-Not.n c.in-Not.o = cc in
-    λ ls e. add-never c.args.s.now c.args.d ls l.floor l.at l.bytes l.held (l.invariant.3 ls e) c.loop-at-test.true c.in-Not.n c.in-Not.o f
+    let f : placed (list l.floor l.at (drop l.at c.args.s.now)) ≡ refused c.in-Err.n c.in-Err.o = cc in
+    λ ls e. add-never c.args.s.now c.args.d ls l.floor l.at l.bytes l.held (l.invariant.3 ls e) c.loop-at-test.true c.in-Err.n c.in-Err.o f
 
 pub returns : goal.returns
 returns c =

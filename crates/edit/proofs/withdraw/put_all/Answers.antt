@@ -6,8 +6,7 @@ use Prim.Native.Nat.{◌≤◌, ◌<◌}
 use lib.ListN.{length, drop}
 use Rattle.shelf.specs.Walk.{list}
 use Rattle.shelf.specs.Check.{checked}
-use Rattle.shelf.specs.Answers.{list_of}
-use Rattle.shelf.specs.declared.walk.ListRead.TheVariants.{Is, Not}
+use Rattle.shelf.specs.Answers.{placed}
 use Rattle.change.proofs.Seats.{list-onward}
 use Rattle.change.proofs.Pieces.{judged-lists}
 use Rattle.edit.proofs.Lefts.{put_start, put_end, put_never, put_goes, put_room, put_on}
@@ -19,40 +18,40 @@ loop-at-init c =
 
 pub put_left-j-requires : goal.put_left-j-requires
 put_left-j-requires c =
-    let found : list_of (list c.loop-at.floor c.loop-at.at (drop c.loop-at.at c.args.s.now)) ≡ Is c.in-Is.p = cc in
+    let found : placed (list c.loop-at.floor c.loop-at.at (drop c.loop-at.at c.args.s.now)) ≡ done c.in-Ok.p = cc in
     let l = c.loop-at in
     let j = judged-lists (checked c.args.s.now) c.requires.0 in
     let i = l.invariant.2 j.0 j.1 in
     let t = c.loop-at-test.true in (
-      (put_goes c.args.s.now c.args.d j.0 c.args.out.now l.out l.floor l.at l.j i c.in-Is.p t (found)).ready l.docs l.scores l.invariant.1,
-      put_room c.args.s.now c.args.d j.0 c.args.out.now l.out l.floor l.at l.j i c.in-Is.p t (found) (c.requires.2 j.0 j.1),
+      (put_goes c.args.s.now c.args.d j.0 c.args.out.now l.out l.floor l.at l.j i c.in-Ok.p t (found)).ready l.docs l.scores l.invariant.1,
+      put_room c.args.s.now c.args.d j.0 c.args.out.now l.out l.floor l.at l.j i c.in-Ok.p t (found) (c.requires.2 j.0 j.1),
     )
 
 pub loop-at-smaller : goal.loop-at-smaller
 loop-at-smaller c =
-    let found : list_of (list c.loop-at.floor c.loop-at.at (drop c.loop-at.at c.args.s.now)) ≡ Is c.in-Is.p = cc in
-    let onward : (c.loop-at.at < c.in-Is.p.next) × (c.in-Is.p.next ≤ length c.args.s.now) = list-onward c.loop-at.floor c.loop-at.at c.args.s.now c.in-Is.p (found) in
+    let found : placed (list c.loop-at.floor c.loop-at.at (drop c.loop-at.at c.args.s.now)) ≡ done c.in-Ok.p = cc in
+    let onward : (c.loop-at.at < c.in-Ok.p.next) × (c.in-Ok.p.next ≤ length c.args.s.now) = list-onward c.loop-at.floor c.loop-at.at c.args.s.now c.in-Ok.p (found) in
     omega (arith, (onward).0, (onward).1)
 
 pub loop-at-preserved : goal.loop-at-preserved
 loop-at-preserved c =
-    let found : list_of (list c.loop-at.floor c.loop-at.at (drop c.loop-at.at c.args.s.now)) ≡ Is c.in-Is.p = cc in
-    let onward : (c.loop-at.at < c.in-Is.p.next) × (c.in-Is.p.next ≤ length c.args.s.now) = list-onward c.loop-at.floor c.loop-at.at c.args.s.now c.in-Is.p (found) in
+    let found : placed (list c.loop-at.floor c.loop-at.at (drop c.loop-at.at c.args.s.now)) ≡ done c.in-Ok.p = cc in
+    let onward : (c.loop-at.at < c.in-Ok.p.next) × (c.in-Ok.p.next ≤ length c.args.s.now) = list-onward c.loop-at.floor c.loop-at.at c.args.s.now c.in-Ok.p (found) in
     let l = c.loop-at in (
       (onward).1,
       record { docids = omega (arith, l.invariant.1.docids); scored = omega (arith, l.invariant.1.scored) },
-      (λ ls e. put_on c.args.s.now c.args.d ls c.args.out.now l.out l.floor l.at l.j (l.invariant.2 ls e) c.in-Is.p c.loop-at-test.true (found) _ _ c.put_left-j.ensures),
+      (λ ls e. put_on c.args.s.now c.args.d ls c.args.out.now l.out l.floor l.at l.j (l.invariant.2 ls e) c.in-Ok.p c.loop-at-test.true (found) _ _ c.put_left-j.ensures),
       stored-length c.put_left-j.ensures ∙ l.invariant.3,
     )
 
-pub shape_of-out-in-Not : goal.shape_of-out-in-Not
-shape_of-out-in-Not c = omega (arith, c.loop-at.invariant.3)
+pub shape_of-out-in-Err : goal.shape_of-out-in-Err
+shape_of-out-in-Err c = omega (arith, c.loop-at.invariant.3)
 
-pub returns-in-Not : goal.returns-in-Not
-returns-in-Not c =
+pub returns-in-Err : goal.returns-in-Err
+returns-in-Err c =
     let l = c.loop-at in
-    let f : list_of (list l.floor l.at (drop l.at c.args.s.now)) ≡ Not c.in-Not.n c.in-Not.o = cc in
-    λ ls e. put_never c.args.s.now c.args.d ls c.args.out.now l.out l.floor l.at l.j (l.invariant.2 ls e) c.loop-at-test.true c.in-Not.n c.in-Not.o f
+    let f : placed (list l.floor l.at (drop l.at c.args.s.now)) ≡ refused c.in-Err.n c.in-Err.o = cc in
+    λ ls e. put_never c.args.s.now c.args.d ls c.args.out.now l.out l.floor l.at l.j (l.invariant.2 ls e) c.loop-at-test.true c.in-Err.n c.in-Err.o f
 
 pub shape_of-out : goal.shape_of-out
 shape_of-out c = omega (arith, c.loop-at.invariant.3)

@@ -4,7 +4,7 @@ use mathlib.Core.Path.{◌≡◌, sym}
 use lib.ListN.{length}
 use Rattle.shelf.specs.Walk.{blocks_at}
 use Rattle.shelf.specs.Check.{bad_body}
-use Rattle.shelf.specs.declared.check.BadRead.TheVariants.{BadAt, NoBad}
+use Rattle.std.specs.Prelude.{Some, None}
 use Rattle.list.specs.Read.{count_of, read_blocks}
 use Rattle.list.specs.Fill.{Fillable}
 use Rattle.list.proofs.Given.{reads_refused, read_bad, read_short, reads_filled}
@@ -14,7 +14,7 @@ pub returns-then-docids-n : goal.returns-then-docids-n
 returns-then-docids-n c =
     let a = c.args in
     let bs = blocks_at a.s.now a.list.at a.list.count in
-    let right : bad_body bs ≡ NoBad = cc in
+    let right : bad_body bs ≡ None = cc in
     let n : count_of bs ≡ c.count-n.result = sym c.count-n.ensures in
     reads_refused (read_blocks bs (length a.docids.now) (length a.scores.now)) 9 0 a.docids.now a.scores.now
     (read_short bs (length a.docids.now) (length a.scores.now) right (omega arith))
@@ -23,7 +23,7 @@ pub returns-then-scores-n : goal.returns-then-scores-n
 returns-then-scores-n c =
     let a = c.args in
     let bs = blocks_at a.s.now a.list.at a.list.count in
-    let right : bad_body bs ≡ NoBad = cc in
+    let right : bad_body bs ≡ None = cc in
     let n : count_of bs ≡ c.count-n.result = sym c.count-n.ensures in
     reads_refused (read_blocks bs (length a.docids.now) (length a.scores.now)) 9 0 a.docids.now a.scores.now
     (read_short bs (length a.docids.now) (length a.scores.now) right (omega arith))
@@ -32,23 +32,23 @@ pub fill-requires : goal.fill-requires
 fill-requires c =
     let a = c.args in
     let bs = blocks_at a.s.now a.list.at a.list.count in
-    let right : bad_body bs ≡ NoBad = cc in
+    let right : bad_body bs ≡ None = cc in
     let n : count_of bs ≡ c.count-n.result = sym c.count-n.ensures in
     record { ready = c.requires; right = right; roomy = omega arith; wide = omega arith }
 
-pub returns-in-BadAt : goal.returns-in-BadAt
-returns-in-BadAt c =
+pub returns-in-Some : goal.returns-in-Some
+returns-in-Some c =
     let a = c.args in
     let bs = blocks_at a.s.now a.list.at a.list.count in
-    let wrong : bad_body bs ≡ BadAt c.in-BadAt.o = cc in
-    reads_refused (read_blocks bs (length a.docids.now) (length a.scores.now)) 8 c.in-BadAt.o a.docids.now a.scores.now
-    (read_bad bs (length a.docids.now) (length a.scores.now) c.in-BadAt.o wrong)
+    let wrong : bad_body bs ≡ Some c.in-Some.o = cc in
+    reads_refused (read_blocks bs (length a.docids.now) (length a.scores.now)) 8 c.in-Some.o a.docids.now a.scores.now
+    (read_bad bs (length a.docids.now) (length a.scores.now) c.in-Some.o wrong)
 
 pub returns-else-scores-n : goal.returns-else-scores-n
 returns-else-scores-n c =
     let a = c.args in
     let bs = blocks_at a.s.now a.list.at a.list.count in
-    let right : bad_body bs ≡ NoBad = cc in
+    let right : bad_body bs ≡ None = cc in
     let n : count_of bs ≡ c.count-n.result = sym c.count-n.ensures in
     let room : Fillable a.s.now a.list (length a.docids.now) (length a.scores.now) = record { ready = c.requires; right = right; roomy = omega arith; wide = omega arith } in
     reads_filled a.s.now a.list a.docids.now a.scores.now c.fill.new.docids c.fill.new.scores c.fill.result room c.fill.ensures

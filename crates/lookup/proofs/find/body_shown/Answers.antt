@@ -8,8 +8,6 @@ use Rattle.lookup.specs.Show.{bodies_from, has_block}
 use Rattle.lookup.specs.declared.find.Shown.TheVariants as shown
 use Rattle.lookup.proofs.Shows.{has_facts, body-here, body-cut, body-none, body_refused}
 use Rattle.shelf.specs.Walk.{bodies}
-use Rattle.shelf.specs.Answers.{place_of}
-use Rattle.shelf.specs.declared.walk.PlaceRead.TheVariants.{Past, Refused}
 use Rattle.lookup.proofs.find.body_shown.Goals as goal
 
 pub returns-then-not-has_block : goal.returns-then-not-has_block
@@ -42,7 +40,7 @@ returns-in-Past c =
     let has : let a = c.args in has_block a.s.now c.in-List.p a.j ≡ true = sym c.has_block.ensures ∙ c.if-not-has_block.false in
     let a = c.args in
     let f : a.shown ≡ shown.List c.in-List.p = cc in
-    let q : place_of (bodies a.j (bodies_from c.in-List.p) (drop (bodies_from c.in-List.p) a.s.now)) ≡ Past c.in-Past.b = cc in
+    let q : bodies a.j (bodies_from c.in-List.p) (drop (bodies_from c.in-List.p) a.s.now) ≡ done c.in-Past.b = cc in
     rw (f, body-here a.s.now c.in-List.p a.j (has) c.in-Past.b q) c.part_at.ensures
 
 pub returns-in-Refused-bodies_at : goal.returns-in-Refused-bodies_at
@@ -50,7 +48,7 @@ returns-in-Refused-bodies_at c =
     let has : let a = c.args in has_block a.s.now c.in-List.p a.j ≡ true = sym c.has_block.ensures ∙ c.if-not-has_block.false in
     let a = c.args in
     let f : a.shown ≡ shown.List c.in-List.p = cc in
-    let q : place_of (bodies a.j (bodies_from c.in-List.p) (drop (bodies_from c.in-List.p) a.s.now)) ≡ Refused c.in-Refused-bodies_at.n c.in-Refused-bodies_at.o = cc in
+    let q : bodies a.j (bodies_from c.in-List.p) (drop (bodies_from c.in-List.p) a.s.now) ≡ refused c.in-Refused-bodies_at.n c.in-Refused-bodies_at.o = cc in
     rw (f, body-cut a.s.now c.in-List.p a.j (has) c.in-Refused-bodies_at.n c.in-Refused-bodies_at.o q)
 
 pub returns-in-Refused : goal.returns-in-Refused

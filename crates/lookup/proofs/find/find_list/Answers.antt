@@ -4,7 +4,7 @@ use mathlib.Core.Path.{◌≡◌, sym, ap, ◌∙◌}
 use Rattle.shelf.specs.Cursor.{walk_step, lists_at}
 use Rattle.shelf.specs.declared.walk.Walk.{Walk}
 use Rattle.lookup.specs.declared.find.Shown.TheVariants as shown
-use Rattle.shelf.specs.declared.walk.WalkStep.TheVariants as step
+use Rattle.shelf.specs.Step as step
 use Rattle.shelf.proofs.Steps.{Turn, turn, walk_end, walk-fault}
 use Rattle.lookup.proofs.Finds.{shown_from, shown-turn, found-start}
 use Rattle.lookup.proofs.find.find_list.Goals as goal

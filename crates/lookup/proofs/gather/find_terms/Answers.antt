@@ -2,7 +2,7 @@
 use mathlib.Core.Path.{◌≡◌}
 use borrow.Author.Rules.{rules}
 use Rattle.shelf.specs.Cursor.{walk_step}
-use Rattle.shelf.specs.declared.walk.WalkStep.TheVariants as step
+use Rattle.shelf.specs.Step as step
 use Rattle.shelf.proofs.Steps.{Turn, turn}
 use Rattle.lookup.proofs.Gathers.{noting_start, noting_turn, noting_sizes, noting_end, noting_fault}
 use Rattle.lookup.proofs.gather.find_terms.Goals as goal

@@ -2,8 +2,8 @@
 use Rattle.shelf.proofs.Readings.{Judging}
 use Rattle.shelf.proofs.check.bad_body.Given as goal
 
-abbrev pub invariant-loop-m : goal.invariant-loop-m
-invariant-loop-m l = Judging l.s l.initial.r l.r
+abbrev pub invariant-loop-b : goal.invariant-loop-b
+invariant-loop-b l = Judging l.s l.initial.reading l.reading
 
-abbrev pub decreases-loop-m : goal.decreases-loop-m
-decreases-loop-m l = l.r.left
+abbrev pub decreases-loop-b : goal.decreases-loop-b
+decreases-loop-b l = l.reading.left

@@ -6,8 +6,8 @@ use Rattle.shelf.specs.Cursor.{lists_at}
 use Rattle.shelf.proofs.Checks.{finish}
 use Rattle.shelf.proofs.check.check.Given as goal
 
-abbrev pub invariant-loop-p : goal.invariant-loop-p
-invariant-loop-p l = judged (checked l.s) ≡ judged (finish l.bad (lists_at l.s l.w))
+abbrev pub invariant-loop-list : goal.invariant-loop-list
+invariant-loop-list l = judged (checked l.s) ≡ judged (finish l.bad (lists_at l.s l.walk))
 
-abbrev pub decreases-loop-p : goal.decreases-loop-p
-decreases-loop-p l = l.w.left
+abbrev pub decreases-loop-list : goal.decreases-loop-list
+decreases-loop-list l = l.walk.left

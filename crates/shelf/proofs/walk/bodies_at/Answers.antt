@@ -5,52 +5,56 @@ use Rattle.wire.proofs.Fields.{field_room, field_is, field-not}
 use Rattle.block.specs.Body.{is_strip, tag_of}
 use Rattle.shelf.specs.Walk.{bodies, bodies_of}
 use Rattle.shelf.proofs.Walks.{bodies-none, bodies-step, bodies_missing}
-use Prim.Native.Nat.{ℕ, ◌+◌, ◌-◌, ◌≤◌}
+use Prim.Native.Nat.{ℕ, ◌+◌, ◌-◌, ◌≤◌, ◌<◌}
 use native.Mathlib.Omega.{arith}
-use mathlib.Core.Path.{◌≡◌, refl, ap, ◌∙◌}
+use native.Mathlib.Nat.{sub-zero}
+use mathlib.Core.List.{List}
+use mathlib.Core.Path.{◌≡◌, refl, ◌∙◌}
 use mathlib.Core.Bool.{Bool}
 use lib.ListN.{length, drop}
 use Rattle.shelf.proofs.walk.bodies_at.Goals as goal
 
-pub loop-left-init : goal.loop-left-init
+pub loop-turn-init : goal.loop-turn-init
 unfolding bodies
-loop-left-init c = refl
+loop-turn-init c = rw sub-zero refl
+
+field_fits : (strip : Bool) (s : List ℕ) (p n : ℕ) → field_at (tag_of strip) s p ≡ Some n → p + (3 + n) ≤ length s
+field_fits strip s p n e = field_room (tag_of strip) s p n e
 
 pub overflow_add-p : goal.overflow_add-p
 overflow_add-p c =
-    let strip : Bool = is_strip (drop c.args.at c.args.s.now) in
-    let found : field_at (tag_of (strip)) c.args.s.now c.loop-left.p ≡ Some c.in-Some.len = cc in
-    let room : c.loop-left.p + (3 + c.in-Some.len) ≤ length c.args.s.now = field_room (tag_of (strip)) c.args.s.now c.loop-left.p c.in-Some.len (found) in
-    omega (arith, room)
+    let a = c.args in
+    omega (arith, field_fits (is_strip (drop a.at a.s.now)) a.s.now c.loop-turn.p c.in-Some.len (cc))
 
-pub overflow_add-p-in-Some : goal.overflow_add-p-in-Some
-overflow_add-p-in-Some c =
-    let strip : Bool = is_strip (drop c.args.at c.args.s.now) in
-    let found : field_at (tag_of (strip)) c.args.s.now c.loop-left.p ≡ Some c.in-Some.len = cc in
-    let room : c.loop-left.p + (3 + c.in-Some.len) ≤ length c.args.s.now = field_room (tag_of (strip)) c.args.s.now c.loop-left.p c.in-Some.len (found) in
-    omega (arith, room)
+pub overflow_add-p-in-loop-turn : goal.overflow_add-p-in-loop-turn
+overflow_add-p-in-loop-turn c =
+    let a = c.args in
+    omega (arith, field_fits (is_strip (drop a.at a.s.now)) a.s.now c.loop-turn.p c.in-Some.len (cc))
 
-pub loop-left-preserved : goal.loop-left-preserved
-loop-left-preserved c =
-    let strip : Bool = is_strip (drop c.args.at c.args.s.now) in
-    let found : field_at (tag_of (strip)) c.args.s.now c.loop-left.p ≡ Some c.in-Some.len = cc in
-    let l = c.loop-left in
-    let s = c.args.s.now in
-    let t = strip in
-    let i = field_is (tag_of t) s l.p c.in-Some.len (found) in
-    l.invariant ∙ bodies-step t l.left l.p s c.loop-left-test.true i.0 ∙ ap (λ (x : ℕ). bodies_of t (l.left - 1) (l.p + (3 + x)) (drop (l.p + (3 + x)) s)) i.1
+-- a body passed: one turn of the loop, of which `turn` are done
+passed_one : (strip : Bool) (n turn p len : ℕ) (s : List ℕ) → turn < n → field_at (tag_of strip) s p ≡ Some len →
+    bodies_of strip (n - turn) p (drop p s) ≡ bodies_of strip (n - (turn + 1)) (p + (3 + len)) (drop (p + (3 + len)) s)
+passed_one strip n turn p len s h e =
+    let i = field_is (tag_of strip) s p len e in
+    let less : n - turn - 1 ≡ n - (turn + 1) = omega arith in
+    rw (less, i.1) at (bodies-step strip (n - turn) p s (omega arith) i.0)
 
-pub returns-in-None : goal.returns-in-None
-returns-in-None c =
-    let strip : Bool = is_strip (drop c.args.at c.args.s.now) in
-    let l = c.loop-left in
-    let s = c.args.s.now in
-    let t = strip in
-    let f : field_at (tag_of t) s l.p ≡ None = cc in
-    rw (l.invariant, bodies_missing t l.left l.p s c.loop-left-test.true (field-not (tag_of t) s l.p f))
+pub loop-turn-preserved : goal.loop-turn-preserved
+loop-turn-preserved c =
+    let a = c.args in
+    let l = c.loop-turn in
+    l.invariant ∙ passed_one (is_strip (drop a.at a.s.now)) a.n l.turn l.p c.in-Some.len a.s.now c.loop-turn-test.true (cc)
+
+pub returns-in_default : goal.returns-in_default
+returns-in_default c =
+    let a = c.args in
+    let l = c.loop-turn in
+    let strip = is_strip (drop a.at a.s.now) in
+    let none : field_at (tag_of strip) a.s.now l.p ≡ None = cc in
+    rw (c.at.ensures, l.invariant, bodies_missing strip (a.n - l.turn) l.p a.s.now (omega arith) (field-not (tag_of strip) a.s.now l.p none))
 
 pub returns : goal.returns
 returns c =
-    let strip : Bool = is_strip (drop c.args.at c.args.s.now) in
-    let l = c.loop-left in
-    rw (l.invariant, bodies-none (strip) l.left l.p c.args.s.now c.loop-left-test.false)
+    let a = c.args in
+    let l = c.loop-turn in
+    rw (l.invariant, bodies-none (is_strip (drop a.at a.s.now)) (a.n - l.turn) l.p a.s.now (omega arith))

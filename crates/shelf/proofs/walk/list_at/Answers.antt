@@ -1,47 +1,44 @@
 -- `shelf::walk::list_at` meets its contract: each return is a law of `Walks` at what its parts were found to be. Assumes nothing.
-use Rattle.shelf.specs.Walk.{sums, bodies}
-use Rattle.shelf.specs.Answers.{head_at, place_of}
-use Rattle.shelf.specs.declared.walk.HeadRead.TheVariants.{Head, NoHead}
-use Rattle.shelf.specs.declared.walk.PlaceRead.TheVariants.{Past, Refused}
+use Rattle.std.specs.Prelude.{Some, None}
+use Rattle.model.specs.Refusal.{number}
+use Rattle.model.proofs.Refusals.{refused_up}
+use Rattle.shelf.specs.Answers.{head_at}
 use Rattle.shelf.proofs.Walks.{head-found, head-room, list_no_head, list_no_sums, list_no_bodies, list-whole}
-use Prim.Native.Nat.{◌+◌}
 use native.Mathlib.Omega.{arith}
-use mathlib.Core.Path.{◌≡◌, sym}
+use mathlib.Core.Path.{◌≡◌, sym, ◌∙◌}
 use lib.ListN.{drop, length-drop}
 use Rattle.shelf.proofs.walk.list_at.Goals as goal
 
 pub overflow_add-at : goal.overflow_add-at
 overflow_add-at c =
     let a = c.args in
-    let h : head_at a.floor a.s.now a.at ≡ Head c.in-Head.term c.in-Head.count = cc in
-    let f = head-found a.floor a.s.now a.at c.in-Head.term c.in-Head.count h in
+    let f = head-found a.floor a.s.now a.at c.in-Some.term c.in-Some.count (cc) in
     omega (arith, head-room a.floor (drop a.at a.s.now) f.0, length-drop a.at a.s.now)
 
-pub returns-in-Past-bodies_at : goal.returns-in-Past-bodies_at
-returns-in-Past-bodies_at c =
+pub returns-in_default : goal.returns-in_default
+returns-in_default c =
     let a = c.args in
-    let h : head_at a.floor a.s.now a.at ≡ Head c.in-Head.term c.in-Head.count = cc in
-    let q : place_of (sums c.in-Head.count 0 (a.at + 8) (drop (a.at + 8) a.s.now)) ≡ Past c.in-Past.b = cc in
-    let r : place_of (bodies c.in-Head.count c.in-Past.b (drop c.in-Past.b a.s.now)) ≡ Past c.in-Past-bodies_at.next = cc in
-    sym (list-whole a.floor a.at a.s.now c.in-Head.term c.in-Head.count h c.in-Past.b q c.in-Past-bodies_at.next r)
+    let none : head_at a.floor a.s.now a.at ≡ None = cc in
+    rw c.at.ensures (sym (list_no_head a.floor a.at a.s.now none))
 
-pub returns-in-Refused-bodies_at : goal.returns-in-Refused-bodies_at
-returns-in-Refused-bodies_at c =
+pub returns-in_err-b : goal.returns-in_err-b
+returns-in_err-b c =
     let a = c.args in
-    let h : head_at a.floor a.s.now a.at ≡ Head c.in-Head.term c.in-Head.count = cc in
-    let q : place_of (sums c.in-Head.count 0 (a.at + 8) (drop (a.at + 8) a.s.now)) ≡ Past c.in-Past.b = cc in
-    let r : place_of (bodies c.in-Head.count c.in-Past.b (drop c.in-Past.b a.s.now)) ≡ Refused c.in-Refused-bodies_at.n c.in-Refused-bodies_at.o = cc in
-    sym (list_no_bodies a.floor a.at a.s.now c.in-Head.term c.in-Head.count h c.in-Past.b q c.in-Refused-bodies_at.n c.in-Refused-bodies_at.o r)
+    let r = c.in_err-b.field-0.0 in
+    let h : head_at a.floor a.s.now a.at ≡ Some (c.in-Some.term, c.in-Some.count) = cc in
+    refused_up c.from_residual.result r c.from_residual.ensures.1
+    ∙ sym (list_no_sums a.floor a.at a.s.now c.in-Some.term c.in-Some.count h (number r.fault) r.offset (sym c.in_err-b.ensures))
 
-pub returns-in-Refused : goal.returns-in-Refused
-returns-in-Refused c =
+pub returns-in_err-next : goal.returns-in_err-next
+returns-in_err-next c =
     let a = c.args in
-    let h : head_at a.floor a.s.now a.at ≡ Head c.in-Head.term c.in-Head.count = cc in
-    let q : place_of (sums c.in-Head.count 0 (a.at + 8) (drop (a.at + 8) a.s.now)) ≡ Refused c.in-Refused.n c.in-Refused.o = cc in
-    sym (list_no_sums a.floor a.at a.s.now c.in-Head.term c.in-Head.count h c.in-Refused.n c.in-Refused.o q)
+    let r = c.in_err-next.field-0.0 in
+    let h : head_at a.floor a.s.now a.at ≡ Some (c.in-Some.term, c.in-Some.count) = cc in
+    refused_up c.from_residual-in_err-next.result r c.from_residual-in_err-next.ensures.1
+    ∙ sym (list_no_bodies a.floor a.at a.s.now c.in-Some.term c.in-Some.count h c.in_ok-b.b (sym c.in_ok-b.ensures) (number r.fault) r.offset (sym c.in_err-next.ensures))
 
-pub returns-in-NoHead : goal.returns-in-NoHead
-returns-in-NoHead c =
+pub returns : goal.returns
+returns c =
     let a = c.args in
-    let h : head_at a.floor a.s.now a.at ≡ NoHead = cc in
-    sym (list_no_head a.floor a.at a.s.now h)
+    let h : head_at a.floor a.s.now a.at ≡ Some (c.in-Some.term, c.in-Some.count) = cc in
+    sym (list-whole a.floor a.at a.s.now c.in-Some.term c.in-Some.count h c.in_ok-b.b (sym c.in_ok-b.ensures) c.in_ok-next.next (sym c.in_ok-next.ensures))
