@@ -13,8 +13,7 @@ use Rattle.model.proofs.Storing.{stored-holds}
 use Rattle.shelf.specs.Walk.{Block, Listing, blocks_at, posts_of}
 use Rattle.shelf.specs.Check.{bad_body}
 use Rattle.shelf.specs.Answers.{Ready}
-use Rattle.lookup.specs.Find.{found, shown_of}
-use Rattle.lookup.specs.declared.find.Shown.TheVariants as shown
+use Rattle.lookup.specs.Find.{found, placed}
 use Rattle.lookup.proofs.Stands.{found_stands}
 use Rattle.shelf.specs.declared.walk.Place.{Place}
 use Rattle.std.specs.Prelude.{Some, None}
@@ -61,16 +60,16 @@ reads_filled s p ds ss ds' ss' r h f =
 
 -- ---- the list of a term, as `find_list` found it
 
-shown-list : (o : Outcome Listing) (p : Place) → shown_of o ≡ shown.List p → (l : Listing) × (o ≡ done l) × (l.place ≡ p)
+shown-list : (o : Outcome Listing) (p : Place) → placed o ≡ done p → (l : Listing) × (o ≡ done l) × (l.place ≡ p)
 shown-list (done l) p e = (l, refl, (cc))
 shown-list (refused n o) p e = let z : ◌≡◌ {A = ℕ} 0 1 = cc in absurd (omega arith)
 
-shown-refused : (o : Outcome Listing) (n at : ℕ) → shown_of o ≡ shown.Refused n at → o ≡ refused n at
+shown-refused : (o : Outcome Listing) (n at : ℕ) → placed o ≡ refused n at → o ≡ refused n at
 shown-refused (done l) n at e = let z : ◌≡◌ {A = ℕ} 0 1 = cc in absurd (omega arith)
 shown-refused (refused m o) n at e = cc
 
 module _ (t : ℕ) (s : List ℕ) where
-  pub read_found : (p : Place) → shown_of (found t s) ≡ shown.List p →
+  pub read_found : (p : Place) → placed (found t s) ≡ done p →
       Ready s p × ((d w : ℕ) → read_list t s d w ≡ read_blocks (blocks_at s p.at p.count) d w)
   unfolding read_list
   read_found p e =
@@ -78,6 +77,6 @@ module _ (t : ℕ) (s : List ℕ) where
       let h = found_stands t s f.0 f.1 in
       (rw f.2 at h.ready, λ d w. rw (f.1, h.blocks, f.2))
 
-  pub read-refused : (n at d w : ℕ) → shown_of (found t s) ≡ shown.Refused n at → read_list t s d w ≡ refused n at
+  pub read-refused : (n at d w : ℕ) → placed (found t s) ≡ refused n at → read_list t s d w ≡ refused n at
   unfolding read_list
   read-refused n at d w e = rw (shown-refused (found t s) n at e)
