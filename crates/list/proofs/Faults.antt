@@ -16,7 +16,9 @@ use Rattle.model.proofs.Posts.{from, from_cons, from_end, count_of, rising-last}
 use Rattle.model.proofs.Storing.{stored-holds}
 use Rattle.list.specs.Answer.{Gives}
 use Rattle.list.specs.Write.{list_bytes, may_follow, fault_at, write_list, Paired}
-use Rattle.list.specs.declared.answer.Answer.TheVariants.{Done, Refused}
+use Rattle.std.specs.Prelude.{Ok, Err}
+use Rattle.model.specs.Refusal.{number}
+use Rattle.model.specs.declared.refusal.Refusal.{Refusal}
 
 -- ---- the posting at index i, after docid p
 
@@ -133,10 +135,10 @@ module _ (strip : Bool) (t : ℕ) (ds ss : List ℕ) (room : ℕ) where
 
 -- ---- what is answered, and what the buffer holds
 
-pub gives-refused : {o : Outcome (List ℕ)} {n k : ℕ} (l : List ℕ) → o ≡ refused n k → Gives o l l (Refused n k)
-gives-refused l e = record { answers = rw e; holds = rw e }
+pub gives-refused : {o : Outcome (List ℕ)} (r : Refusal) (l : List ℕ) → o ≡ refused (number r.fault) r.offset → Gives o l l (Err r)
+gives-refused r l e = record { answers = rw e; holds = rw e }
 
-pub gives-done : {o : Outcome (List ℕ)} {l m v : List ℕ} {r : ℕ} → o ≡ done v → length v ≤ length l → Stored l m 0 r v → Gives o l m (Done r)
+pub gives-done : {o : Outcome (List ℕ)} {l m v : List ℕ} {r : ℕ} → o ≡ done v → length v ≤ length l → Stored l m 0 r v → Gives o l m (Ok r)
 gives-done {o} {l} {m} {v} {r} e h s =
     let w = stored-holds h s in
     let q : m ≡ v ++ drop (length v) l = w.whole ∙ ap (λ (k : ℕ). v ++ drop k l) w.count in

@@ -13,25 +13,28 @@ use Rattle.model.proofs.Storing.{stored-holds}
 use Rattle.shelf.specs.Walk.{Block, Listing, blocks_at, posts_of}
 use Rattle.shelf.specs.Check.{bad_body}
 use Rattle.shelf.specs.Answers.{Ready}
-use Rattle.lookup.specs.Find.{found, placed}
+use Rattle.lookup.specs.Find.{found}
+use Rattle.shelf.specs.Answers.{placed}
 use Rattle.lookup.proofs.Stands.{found_stands}
 use Rattle.shelf.specs.declared.walk.Place.{Place}
 use Rattle.std.specs.Prelude.{Some, None}
 use Rattle.list.specs.Answer.{Gives}
 use Rattle.list.specs.Read.{count_of, read_blocks, read_list, Reads}
 use Rattle.list.specs.Fill.{Fillable, Filled}
-use Rattle.list.specs.declared.answer.Answer.TheVariants.{Done, Refused}
+use Rattle.std.specs.Prelude.{Ok, Err}
+use Rattle.model.specs.Refusal.{number}
+use Rattle.model.specs.declared.refusal.Refusal.{Refusal}
 use Rattle.list.proofs.Pours.{right-count}
 
 -- a refusal leaves both runs as they were
-pub reads_refused : (o : Outcome (List Post)) (n at : ℕ) (ds ss : List ℕ) → o ≡ refused n at → Reads o ds ss ds ss (Refused n at)
-reads_refused o n at ds ss e = rw e record {
+pub reads_refused : (o : Outcome (List Post)) (r : Refusal) (ds ss : List ℕ) → o ≡ refused (number r.fault) r.offset → Reads o ds ss ds ss (Err r)
+reads_refused o r ds ss e = rw e record {
   docids = record { answers = refl; holds = refl };
   scored = record { answers = refl; holds = refl };
 }
 
 -- what was stored from the front on is what is given
-gives-stored : (v l m : List ℕ) (r : ℕ) → length v ≤ length l → Stored l m 0 r v → Gives (done v) l m (Done r)
+gives-stored : (v l m : List ℕ) (r : ℕ) → length v ≤ length l → Stored l m 0 r v → Gives (done v) l m (Ok r)
 gives-stored v l m r h s =
     let g = stored-holds h s in
     record { answers = ap done g.count; holds = g.whole ∙ ap (λ (k : ℕ). v ++ drop k l) g.count }
@@ -49,7 +52,7 @@ module _ (bs : List Block) (d w : ℕ) where
   read_whole e h k = rw (e, le-leb (length (posts_of bs)) (min d w) (omega (arith, right-count bs e)))
 
 pub reads_filled : (s : List ℕ) (p : Place) (ds ss ds' ss' : List ℕ) (r : ℕ) → Fillable s p (length ds) (length ss) → Filled s p ds ss ds' ss' r →
-    Reads (read_blocks (blocks_at s p.at p.count) (length ds) (length ss)) ds ss ds' ss' (Done r)
+    Reads (read_blocks (blocks_at s p.at p.count) (length ds) (length ss)) ds ss ds' ss' (Ok r)
 reads_filled s p ds ss ds' ss' r h f =
     let bs = blocks_at s p.at p.count in
     let n = right-count bs h.right in

@@ -9,7 +9,7 @@ ghost use Rattle.block.specs.Body.{tag_of, body_bytes};
 ghost use Rattle.list.specs.Answer.{Gives};
 ghost use Rattle.list.specs.Write.{packed, sums_bytes, bodies_bytes, list_bytes, fault_at, write_list, Paired};
 
-use crate::answer::Answer;
+use model::refusal::{Fault, Refusal};
 
 // ---- blocks
 
@@ -137,33 +137,39 @@ fn first_fault(docs: &[u32], scores: &[u16]) -> usize
 }
 
 // Writes a list, in the layout that is told, to the front of a buffer, which a refusal leaves as it was.
-pub fn write_list(strip: bool, term: u32, docids: &[u32], scores: &[u16], out: &mut [u8]) -> Answer
+pub fn write_list(
+    strip: bool,
+    term: u32,
+    docids: &[u32],
+    scores: &[u16],
+    out: &mut [u8],
+) -> Result<usize, Refusal>
     ensures { Gives (write_list strip term docids.now scores.now (length out.old)) out.old out.new result }
 {
     let n = docids.len();
     let m = scores.len();
     if model::MAX_POSTINGS < n {
-        return Answer::Refused(11, 0);
+        return Err(Fault::Size.at(0));
     }
     if model::MAX_POSTINGS < m {
-        return Answer::Refused(11, 0);
+        return Err(Fault::Size.at(0));
     }
     if n < m {
-        return Answer::Refused(10, n);
+        return Err(Fault::Posting.at(n));
     }
     if m < n {
-        return Answer::Refused(10, m);
+        return Err(Fault::Posting.at(m));
     }
     if n == 0 {
-        return Answer::Refused(10, 0);
+        return Err(Fault::Posting.at(0));
     }
     let fault = first_fault(docids, scores);
     if fault < n {
-        return Answer::Refused(10, fault);
+        return Err(Fault::Posting.at(fault));
     }
     let size = list_len(docids, scores);
     if out.len() < size {
-        return Answer::Refused(9, 0);
+        return Err(Fault::Room.at(0));
     }
-    Answer::Done(put_list(out, 0, strip, term, docids, scores))
+    Ok(put_list(out, 0, strip, term, docids, scores))
 }
