@@ -114,7 +114,13 @@ fn put_all(s: &[u8], d: u32, docs: &mut [u32], scores: &mut [u16], out: &mut [u8
     j
 }
 
-fn withdraw_in(s: &[u8], docid: u32, docs: &mut [u32], scores: &mut [u16], out: &mut [u8]) -> Result<usize, Refusal>
+fn withdraw_in(
+    s: &[u8],
+    docid: u32,
+    docs: &mut [u32],
+    scores: &mut [u16],
+    out: &mut [u8],
+) -> Result<usize, Refusal>
     requires { Sounds s.now × Wide docs.old scores.old }
     ensures { (ls : List Listing) → checked s.now ≡ done ls → Gives (settled (Withdraw docid) (pieces s.now ls) (length out.old)) out.old out.new result }
 {

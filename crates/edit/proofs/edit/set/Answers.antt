@@ -1,6 +1,6 @@
 -- `edit::set` meets its contract: a law for each refusal, and what the edit of a sound shelf ensures. Assumes nothing.
 use native.Mathlib.Omega.{arith}
-use mathlib.Core.Path.{◌≡◌, sym, ap, ◌∙◌}
+use mathlib.Core.Path.{◌≡◌, sym, ◌∙◌}
 use mathlib.Core.Bool.{true}
 use lib.ListN.{length}
 use Rattle.shelf.specs.Check.{checked}

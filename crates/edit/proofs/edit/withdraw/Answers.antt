@@ -1,5 +1,5 @@
 -- `edit::withdraw` meets its contract: a law for each refusal, and what the edit of a sound shelf ensures. Assumes nothing.
-use mathlib.Core.Path.{◌≡◌, sym, ap, ◌∙◌}
+use mathlib.Core.Path.{◌≡◌, sym, ◌∙◌}
 use mathlib.Core.Bool.{true}
 use lib.ListN.{length}
 use Rattle.shelf.specs.Check.{checked}
