@@ -1,4 +1,5 @@
 -- `query::read::take_terms` meets its contract. The invariant: what is left to store gives what is asked (`Fillings`). Assumes nothing.
+use native.Mathlib.Omega.{arith}
 use Rattle.query.proofs.Fillings.{filling_start, filling_turn, filling_end}
 use Rattle.query.proofs.read.take_terms.Goals as goal
 
@@ -16,4 +17,4 @@ pub returns : goal.returns
 returns c =
     let l = c.loop-i in
     let a = c.args in
-    filling_end a.q.now a.n l.i l.terms l.weights l.invariant a.k c.requires.0 c.loop-i-test.false
+    filling_end a.q.now a.n l.i l.terms l.weights l.invariant a.k c.requires.0 (omega arith)
