@@ -6,11 +6,8 @@ use lib.ListN.{drop}
 use Rattle.model.specs.Runs.{has}
 use Rattle.query.specs.Query.{asked_in, term_at}
 use Rattle.query.specs.Answers.{earlier}
-use Rattle.query.proofs.Judging.{repeats_start, repeats_found, repeats_next, repeats_end}
+use Rattle.query.proofs.Judging.{repeats_found, repeats_next, repeats_end}
 use Rattle.query.proofs.faults.judge_repeats.Goals as goal
-
-pub loop-i-init : goal.loop-i-init
-loop-i-init c = repeats_start c.args.n c.args.q.now
 
 pub returns-then-is_earlier : goal.returns-then-is_earlier
 returns-then-is_earlier c =

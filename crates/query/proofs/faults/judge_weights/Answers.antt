@@ -1,11 +1,8 @@
 -- `query::faults::judge_weights` meets its contract. The invariant: the answer for all is the answer for those that are left. Assumes nothing.
 use native.Mathlib.Omega.{arith}
 use mathlib.Core.Path.{sym, ◌∙◌}
-use Rattle.query.proofs.Judging.{weights-start, weights-zero, weights-next, weights-end}
+use Rattle.query.proofs.Judging.{weights-zero, weights-next, weights-end}
 use Rattle.query.proofs.faults.judge_weights.Goals as goal
-
-pub loop-i-init : goal.loop-i-init
-loop-i-init c = weights-start c.args.n c.args.q.now
 
 pub returns-then-weight_of-eq0 : goal.returns-then-weight_of-eq0
 returns-then-weight_of-eq0 c =
