@@ -29,13 +29,6 @@ weighted_from n i s = weighted i (terms_in (n - i) (drop (term_at i) s))
 abbrev pub unrepeated_from : (n i : ℕ) → List ℕ → Outcome (Unit {0})
 unrepeated_from n i s = unrepeated (earlier i s) i (terms_in (n - i) (drop (term_at i) s))
 
--- from the first on they are all
-pub weights-start : (n : ℕ) (s : List ℕ) → weighted 0 (terms_in n (drop 4 s)) ≡ weighted_from n 0 s
-weights-start n s = let z : n - 0 ≡ n = omega arith in rw z
-
-pub repeats_start : (n : ℕ) (s : List ℕ) → unrepeated [] 0 (terms_in n (drop 4 s)) ≡ unrepeated_from n 0 s
-repeats_start n s = let z : n - 0 ≡ n = omega arith in rw z
-
 module _ (n i : ℕ) (s : List ℕ) where
   pub weights-end : n ≤ i → weighted_from n i s ≡ done tt
   weights-end h = rw (terms-none n i s h)

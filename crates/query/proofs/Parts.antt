@@ -4,11 +4,13 @@ use native.Mathlib.Omega.{arith}
 use native.Mathlib.Numerals.{sub-one, add-one}
 use mathlib.Core.Path.{◌≡◌, refl, sym, ap, ◌∙◌}
 use mathlib.Core.List.{List, [], ◌∷◌}
-use mathlib.Core.Bool.{true, false, cond}
-use borrow.Author.Tests.{eqb-true, eq-eqb, ne_eqb}
+use mathlib.Core.Bool.{Bool, true, false, cond, ◌||◌, or-false}
+use borrow.Author.Tests.{eqb-true, eqb-false, eq-eqb, ne_eqb}
 use lib.Dec.{eqb}
 use lib.ListN.{length, drop, length-drop}
 use lib.Seq.{drop-drop}
+use Rattle.std.proofs.Common.{add-zero}
+use Rattle.std.specs.List.{list_any, range_with_len}
 use Rattle.model.specs.Runs.{has}
 use Rattle.model.proofs.Lists.{split, and-true}
 use Rattle.wire.specs.Number.{num}
@@ -146,17 +148,32 @@ terms-more n i s h =
 pub earlier_more : (i : ℕ) (s : List ℕ) → earlier (i + 1) s ≡ (asked_in (drop (term_at i) s)).term ∷ earlier i s
 earlier_more i s = rw (add-one i)
 
--- a search for a term, from the field before index j down
+-- a search for a term in the fields with the indices from i on, n of them, where i were searched before
 
-module _ (t j : ℕ) (s : List ℕ) where
-  pub earlier-none : j ≤ 0 → has t (earlier j s) ≡ false
-  earlier-none h = let z : j ≡ 0 = omega arith in rw z
+-- the term field with index j has the term t
+abbrev pub asks : (t : ℕ) → List ℕ → ℕ → Bool
+asks t s j = eqb (asked_in (drop (term_at j) s)).term t
 
-  last : 0 < j → earlier j s ≡ (asked_in (drop (term_at (j - 1)) s)).term ∷ earlier (j - 1) s
-  last h = let e : j ≡ j - 1 + 1 = omega arith in ap (λ (x : ℕ). earlier x s) e ∙ earlier_more (j - 1) s
+-- the numbers may stand on either side
+turned : (t x : ℕ) → eqb t x ≡ eqb x t
+turned t x =
+    split (eqb x t)
+    (λ e. rw e (eq-eqb t x (sym (eqb-true x t e))))
+    (λ e. rw e (ne_eqb t x (λ f. eqb-false x t e (sym f))))
 
-  pub earlier-here : 0 < j → (asked_in (drop (term_at (j - 1)) s)).term ≡ t → has t (earlier j s) ≡ true
-  earlier-here h e = rw (last h, eq-eqb t (asked_in (drop (term_at (j - 1)) s)).term (sym e))
+-- whether the one in front is searched first or last
+reordered : (a b c : Bool) → (b || (a || c)) ≡ ((a || b) || c)
+reordered true true c = refl
+reordered true false c = refl
+reordered false true c = refl
+reordered false false c = refl
 
-  pub earlier-next : 0 < j → ((asked_in (drop (term_at (j - 1)) s)).term ≡ t → ⊥) → has t (earlier j s) ≡ has t (earlier (j - 1) s)
-  earlier-next h e = rw (last h, ne_eqb t (asked_in (drop (term_at (j - 1)) s)).term (λ f. e (sym f)))
+pub earlier-any : (t : ℕ) (s : List ℕ) (i n : ℕ) → has t (earlier (i + n) s) ≡ (list_any (asks t s) (range_with_len i n) || has t (earlier i s))
+earlier-any t s i zero = rw add-zero
+earlier-any t s i (suc n) =
+    let f : i + suc n ≡ i + 1 + n = omega arith in
+    let x = (asked_in (drop (term_at i) s)).term in
+    rw (f, earlier-any t s (i + 1) n, earlier_more i s, turned t x) (reordered (asks t s i) (list_any (asks t s) (range_with_len (i + 1) n)) (has t (earlier i s)))
+
+pub earlier-all : (t : ℕ) (s : List ℕ) (n : ℕ) → list_any (asks t s) (range_with_len 0 n) ≡ has t (earlier n s)
+earlier-all t s n = let f : 0 + n ≡ n = omega arith in sym (rw f at (earlier-any t s 0 n) ∙ or-false _)

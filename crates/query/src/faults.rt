@@ -11,12 +11,10 @@ fn judge_weights(q: &[u8], n: usize) -> Verdict
     requires { term_at n ≤ length q.now }
     ensures { paper result ≡ weighted 0 (terms_in n (drop 4 q.now)) }
 {
-    let mut i = 0;
-    while i < n {
+    for i in 0..n {
         if crate::fields::weight_of(q, i) == 0 {
             return Verdict::Bad(4, 4 + 8 * i);
         }
-        i += 1;
     }
     Verdict::Good
 }
@@ -26,14 +24,7 @@ fn is_earlier(q: &[u8], i: usize, term: u32) -> bool
     requires { term_at i ≤ length q.now }
     ensures { result ≡ has term (earlier i q.now) }
 {
-    let mut j = i;
-    while 0 < j {
-        j -= 1;
-        if crate::fields::term_of(q, j) == term {
-            return true;
-        }
-    }
-    false
+    (0..i).any(|j| crate::fields::term_of(q, j) == term)
 }
 
 // 5: the first term that an earlier field has.
@@ -41,12 +32,10 @@ fn judge_repeats(q: &[u8], n: usize) -> Verdict
     requires { term_at n ≤ length q.now }
     ensures { paper result ≡ unrepeated [] 0 (terms_in n (drop 4 q.now)) }
 {
-    let mut i = 0;
-    while i < n {
+    for i in 0..n {
         if is_earlier(q, i, crate::fields::term_of(q, i)) {
             return Verdict::Bad(5, 4 + 8 * i);
         }
-        i += 1;
     }
     Verdict::Good
 }

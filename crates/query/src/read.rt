@@ -37,17 +37,15 @@ fn take_terms(q: &[u8], k: u8, n: usize) -> Query
 {
     let mut terms = [0u32; 8];
     let mut weights = [0u8; 8];
-    let mut i = 0;
-    while i < n {
+    for i in 0..n {
         terms[i] = crate::fields::term_of(q, i);
         weights[i] = crate::fields::weight_of(q, i);
-        i += 1;
     }
     Query {
-        k: k,
-        n: n,
-        terms: terms,
-        weights: weights,
+        k,
+        n,
+        terms,
+        weights,
     }
 }
 
