@@ -11,26 +11,24 @@ use lib.ListN.{length, drop, length-drop}
 use lib.Seq.{drop-drop}
 use Rattle.std.proofs.Common.{add-zero}
 use Rattle.std.specs.List.{list_any, range_with_len}
+use Rattle.model.specs.Outcome.{done}
 use Rattle.model.specs.Runs.{has}
 use Rattle.model.proofs.Lists.{split, and-true}
 use Rattle.wire.specs.Number.{num}
 use Rattle.wire.specs.Field.{whole, field_len, field_at}
-use Rattle.std.specs.Prelude.{Some, None}
+use Rattle.std.specs.Option.{option_eq}
 use Rattle.wire.proofs.Fields.{field_is, field-not, whole-size}
-use Rattle.query.specs.Query.{is_field, tag_k, tag_term, term_at, asked_in, terms_in, term_count, field_count}
+use Rattle.query.specs.Query.{is_field, tag_k, tag_term, term_at, asked_in, terms_in, term_count, field_count, all_right}
 use Rattle.query.specs.Answers.{earlier}
-use Rattle.query.specs.declared.fields.FieldsRead.TheVariants.{Terms, Wrong}
+use Rattle.std.specs.Prelude.{Option, Some, None, Result, Ok, Err}
 
 -- ---- a field of a tag and a length
 
 module _ (tag len : ℕ) (s : List ℕ) (at : ℕ) where
-  pub is-field-whole : (n : ℕ) → field_at tag s at ≡ Some n → is_field tag len (drop at s) ≡ eqb n len
+  pub is-field-found : (o : Option ℕ) → field_at tag s at ≡ o → is_field tag len (drop at s) ≡ option_eq eqb o (Some len)
   unfolding is_field
-  is-field-whole n e = let i = field_is tag s at n e in rw (i.0, i.1)
-
-  pub is-field_missing : field_at tag s at ≡ None → is_field tag len (drop at s) ≡ false
-  unfolding is_field
-  is-field_missing e = rw (field-not tag s at e)
+  is-field-found (Some n) e = let i = field_is tag s at n e in rw (i.0, i.1)
+  is-field-found None e = rw (field-not tag s at e)
 
 pub is-field-room : (tag len : ℕ) (s : List ℕ) → is_field tag len s ≡ true → 3 + len ≤ length s
 unfolding is_field
@@ -40,7 +38,7 @@ is-field-room tag len s e =
 
 -- ---- the term fields off the front of some bytes
 
-pub count_none : (fuel n : ℕ) (l : List ℕ) → length l ≤ 0 → term_count fuel n l ≡ Terms n
+pub count_none : (fuel n : ℕ) (l : List ℕ) → length l ≤ 0 → term_count fuel n l ≡ Ok n
 unfolding term_count
 count_none zero n [] h = refl
 count_none (suc fuel) n [] h = refl
@@ -48,7 +46,7 @@ count_none zero n (b ∷ l) h = absurd (omega arith)
 count_none (suc fuel) n (b ∷ l) h = absurd (omega arith)
 
 pub count-some : (fuel n : ℕ) (l : List ℕ) → 0 < fuel → 0 < length l →
-    term_count fuel n l ≡ cond (is_field tag_term 5 l) (term_count (fuel - 1) (n + 1) (drop 8 l)) (Wrong (term_at n))
+    term_count fuel n l ≡ cond (is_field tag_term 5 l) (term_count (fuel - 1) (n + 1) (drop 8 l)) (Err (term_at n))
 unfolding term_count
 count-some zero n l f h = absurd (omega arith)
 count-some (suc fuel) n [] f h = absurd (omega arith)
@@ -60,7 +58,7 @@ pub record Counting (s : List ℕ) (n at : ℕ) : Type 0 where
   pub within : at ≤ length s
   pub left : field_count s ≡ term_count (length s - n) n (drop at s)
 
-pub counting_none : (s : List ℕ) → is_field tag_k 1 s ≡ false → field_count s ≡ Wrong 0
+pub counting_none : (s : List ℕ) → is_field tag_k 1 s ≡ false → field_count s ≡ Err 0
 unfolding field_count
 counting_none s e = rw e
 
@@ -71,14 +69,14 @@ counting_start s e =
     record { place = refl; within = is-field-room tag_k 1 s e; left = rw (e, z) }
 
 module _ (s : List ℕ) (n at : ℕ) (c : Counting s n at) where
-  pub counting_end : length s ≤ at → field_count s ≡ Terms n
+  pub counting_end : length s ≤ at → field_count s ≡ Ok n
   counting_end h = c.left ∙ count_none (length s - n) n (drop at s) (omega (arith, length-drop at s))
 
   module _ (h : at < length s) where
-    onward : field_count s ≡ cond (is_field tag_term 5 (drop at s)) (term_count (length s - n - 1) (n + 1) (drop 8 (drop at s))) (Wrong (term_at n))
+    onward : field_count s ≡ cond (is_field tag_term 5 (drop at s)) (term_count (length s - n - 1) (n + 1) (drop 8 (drop at s))) (Err (term_at n))
     onward = c.left ∙ count-some (length s - n) n (drop at s) (omega (arith, c.place)) (omega (arith, length-drop at s))
 
-    pub counting_wrong : is_field tag_term 5 (drop at s) ≡ false → field_count s ≡ Wrong at
+    pub counting_wrong : is_field tag_term 5 (drop at s) ≡ false → field_count s ≡ Err at
     counting_wrong e = rw (onward, e, c.place)
 
     pub counting_turn : is_field tag_term 5 (drop at s) ≡ true → Counting s (n + 1) (at + 8)
@@ -92,7 +90,7 @@ module _ (s : List ℕ) (n at : ℕ) (c : Counting s n at) where
 
 -- ---- a count that went to the end
 
-pub count-size : (fuel n : ℕ) (l : List ℕ) (m : ℕ) → term_count fuel n l ≡ Terms m → length l + 8 * n ≡ 8 * m
+pub count-size : (fuel n : ℕ) (l : List ℕ) (m : ℕ) → term_count fuel n l ≡ Ok m → length l + 8 * n ≡ 8 * m
 unfolding term_count
 count-size zero n [] m e = let f : n ≡ m = cc in omega arith
 count-size (suc fuel) n [] m e = let f : n ≡ m = cc in omega arith
@@ -100,23 +98,28 @@ count-size zero n (b ∷ l) m e = let z : ◌≡◌ {A = ℕ} 0 1 = cc in absurd
 count-size (suc fuel) n (b ∷ l) m e =
     split (is_field tag_term 5 (b ∷ l))
     (λ w.
-    let f : term_count fuel (n + 1) (drop 8 (b ∷ l)) ≡ Terms m = rw w at e in
+    let f : term_count fuel (n + 1) (drop 8 (b ∷ l)) ≡ Ok m = rw w at e in
     omega (arith, count-size fuel (n + 1) (drop 8 (b ∷ l)) m f, length-drop 8 (b ∷ l), is-field-room tag_term 5 (b ∷ l) w))
     (λ w.
-    let f : Wrong (term_at n) ≡ Terms m = rw w at e in
+    let f : Err (term_at n) ≡ Ok m = rw w at e in
     let z : ◌≡◌ {A = ℕ} 0 1 = cc in
     absurd (omega arith))
 
+-- the fields of which nothing is refused were counted
+pub right-counted : (r : Result ℕ ℕ) (n : ℕ) → all_right r ≡ done n → r ≡ Ok n
+right-counted (Ok m) n e = let f : m ≡ n = cc in ap Ok f
+right-counted (Err at) n e = let z : ◌≡◌ {A = ℕ} 0 1 = cc in absurd (omega arith)
+
 -- the query ends where its last term field does
-pub fields_size : (s : List ℕ) (n : ℕ) → field_count s ≡ Terms n → length s ≡ term_at n
+pub fields_size : (s : List ℕ) (n : ℕ) → field_count s ≡ Ok n → length s ≡ term_at n
 unfolding field_count
 fields_size s n e =
     split (is_field tag_k 1 s)
     (λ w.
-    let f : term_count (length s) 0 (drop 4 s) ≡ Terms n = rw w at e in
+    let f : term_count (length s) 0 (drop 4 s) ≡ Ok n = rw w at e in
     omega (arith, count-size (length s) 0 (drop 4 s) n f, length-drop 4 s, is-field-room tag_k 1 s w))
     (λ w.
-    let f : Wrong 0 ≡ Terms n = rw w at e in
+    let f : Err 0 ≡ Ok n = rw w at e in
     let z : ◌≡◌ {A = ℕ} 0 1 = cc in
     absurd (omega arith))
 

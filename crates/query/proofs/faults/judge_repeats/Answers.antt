@@ -14,7 +14,7 @@ returns-then-is_earlier c =
     let i = c.loop-i.i in
     let a = c.args in
     let e : has (asked_in (drop (term_at i) a.q.now)).term (earlier i a.q.now) ≡ true = cc in
-    sym (c.loop-i.invariant ∙ repeats_found a.n i a.q.now c.loop-i-test.true e)
+    rw c.at.ensures (sym (c.loop-i.invariant ∙ repeats_found a.n i a.q.now c.loop-i-test.true e))
 
 pub loop-i-preserved : goal.loop-i-preserved
 loop-i-preserved c =

@@ -7,7 +7,7 @@ use Rattle.query.proofs.faults.judge_weights.Goals as goal
 pub returns-then-weight_of-eq0 : goal.returns-then-weight_of-eq0
 returns-then-weight_of-eq0 c =
     let a = c.args in
-    sym (c.loop-i.invariant ∙ weights-zero a.n c.loop-i.i a.q.now c.loop-i-test.true (sym c.weight_of.ensures ∙ c.if-weight_of-eq0.true))
+    rw c.at.ensures (sym (c.loop-i.invariant ∙ weights-zero a.n c.loop-i.i a.q.now c.loop-i-test.true (sym c.weight_of.ensures ∙ c.if-weight_of-eq0.true)))
 
 pub loop-i-preserved : goal.loop-i-preserved
 loop-i-preserved c =
