@@ -10,10 +10,10 @@ use lib.ListN.{length, take, drop, length-take, length-drop}
 use lib.Seq.{length-take-le}
 use Rattle.console.specs.declared.call.Call.{Call}
 use Rattle.console.specs.declared.call.Call.TheVariants.{Moved, Ended, Again, Failed}
-use Rattle.console.specs.declared.call.Got.{Got}
-use Rattle.console.specs.declared.call.Next.{Next}
-use Rattle.console.specs.declared.call.Next.TheVariants.{On, Over}
-use Rattle.console.specs.Calls.{wholly, broken, next_of, Countable, Moving, Read}
+use Rattle.std.specs.Prelude.{Option, Some, None}
+use Rattle.std.specs.declared.ops.ControlFlow.{ControlFlow}
+use Rattle.std.specs.declared.ops.ControlFlow.TheVariants.{Continue, Break}
+use Rattle.console.specs.Calls.{next_of, Countable, Moving, Read}
 
 -- `&run[at..]` as the checker has it
 pub part-size : (run : List ℕ) (at : ℕ) → length (take (length run - at) (drop at run)) ≡ length run - at
@@ -30,43 +30,40 @@ pub record Turned (moved tries room m left : ℕ) : Type 0 where
   pub within : m ≤ moved + room
   pub less : moved + left < m + tries
 
-abbrev OnTo : (moved tries room : ℕ) → Next → Type 0
-OnTo moved tries room (On m left) = Turned moved tries room m left
-OnTo moved tries room (Over g) = Unit {0}
+abbrev OnTo : (moved tries room : ℕ) → ControlFlow (Option ℕ) (ℕ × ℕ) → Type 0
+OnTo moved tries room (Continue x) = Turned moved tries room x.0 x.1
+OnTo moved tries room (Break g) = Unit {0}
 
 on_to : (x : Call) (moved tries room : ℕ) → Moving x room → OnTo moved tries room (next_of x moved tries)
 on_to (Moved n) moved tries room m = record { within = omega (arith, m.1); less = omega (arith, m.0) }
 on_to Ended moved tries room m = tt
 on_to Again moved tries room m = go (eqb tries 0) refl
   where
-    go : (b : _) → eqb tries 0 ≡ b → OnTo moved tries room (cond b (Over broken) (On moved (tries - 1)))
+    go : (b : _) → eqb tries 0 ≡ b → OnTo moved tries room (cond b (Break None) (Continue (moved, tries - 1)))
     go true e = tt
     go false e = let l : (tries ≡ 0 → ⊥) = eqb-false tries 0 e in record { within = omega arith; less = omega arith }
 on_to Failed moved tries room m = tt
 
-pub turned : (x : Call) (moved tries room m left : ℕ) → Moving x room → next_of x moved tries ≡ On m left → Turned moved tries room m left
+pub turned : (x : Call) (moved tries room m left : ℕ) → Moving x room → next_of x moved tries ≡ Continue (m, left) → Turned moved tries room m left
 turned x moved tries room m left h e = subst (OnTo moved tries room) e (on_to x moved tries room h)
 
 -- where it is over: all bytes that were moved, or none
-abbrev OverTo : List ℕ → Next → Type 0
-OverTo run (On m left) = Unit {0}
-OverTo run (Over g) = Read run g
+abbrev OverTo : List ℕ → ControlFlow (Option ℕ) (ℕ × ℕ) → Type 0
+OverTo run (Continue x) = Unit {0}
+OverTo run (Break g) = Read run g
 
-pub read-broken : (run : List ℕ) → Read run broken
-read-broken run = record { within = omega arith; part = sym (length-take-le 0 run (omega arith)); failed = λ e. refl }
-
-pub read-wholly : (run : List ℕ) (n : ℕ) → n ≤ length run → Read run (wholly n)
-read-wholly run n h = record { within = h; part = sym (length-take-le n run h); failed = λ e. let z : ◌≡◌ {A = ℕ} 0 1 = cc in absurd (omega arith) }
+pub read-wholly : (run : List ℕ) (n : ℕ) → n ≤ length run → Read run (Some n)
+read-wholly run n h = record { within = h; part = sym (length-take-le n run h) }
 
 over_to : (run : List ℕ) (x : Call) (moved tries : ℕ) → moved ≤ length run → OverTo run (next_of x moved tries)
 over_to run (Moved n) moved tries h = tt
 over_to run Ended moved tries h = read-wholly run moved h
 over_to run Again moved tries h = go (eqb tries 0)
   where
-    go : (b : _) → OverTo run (cond b (Over broken) (On moved (tries - 1)))
-    go true = read-broken run
+    go : (b : _) → OverTo run (cond b (Break None) (Continue (moved, tries - 1)))
+    go true = tt
     go false = tt
-over_to run Failed moved tries h = read-broken run
+over_to run Failed moved tries h = tt
 
-pub over : (run : List ℕ) (x : Call) (moved tries : ℕ) (g : Got) → moved ≤ length run → next_of x moved tries ≡ Over g → Read run g
+pub over : (run : List ℕ) (x : Call) (moved tries : ℕ) (g : Option ℕ) → moved ≤ length run → next_of x moved tries ≡ Break g → Read run g
 over run x moved tries g h e = subst (OverTo run) e (over_to run x moved tries h)

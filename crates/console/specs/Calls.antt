@@ -1,42 +1,24 @@
--- What a call of the system answered, and what comes of it. A call is handed some bytes; it answers how many it moved, 0 at the end, or less than 0
--- with an error. Assumes nothing.
-use Rattle.std.specs.Prelude.{ℕ, ◌+◌, ◌-◌, ◌^◌, ◌≤◌, ◌<◌, min, ◌≡◌, true, false, cond, List, eqb, ℤ, pos, negsuc, length, take, Result, Ok, Err}
+-- What a call of the system answered, and what comes of it. A call is handed some bytes; it answers how many it moved, 0 at the end, or an error: so
+-- std's `io::Result` tells it. Assumes nothing.
+use Rattle.std.specs.Prelude.{ℕ, ◌+◌, ◌-◌, ◌^◌, ◌≤◌, ◌<◌, min, ◌≡◌, cond, List, eqb, length, take, Option, Some, None, Result, Ok, Err}
+use Rattle.std.specs.declared.ops.ControlFlow.{ControlFlow}
+use Rattle.std.specs.declared.ops.ControlFlow.TheVariants.{Continue, Break}
 use Rattle.std.specs.IoError.{error_kind}
 use Rattle.std.specs.declared.io.Error.{Error}
 use Rattle.std.specs.declared.io.ErrorKind.{ErrorKind}
 use Rattle.std.specs.declared.io.ErrorKind.TheVariants.{Interrupted}
 use Rattle.console.specs.declared.call.Call.{Call}
 use Rattle.console.specs.declared.call.Call.TheVariants.{Moved, Ended, Again, Failed}
-use Rattle.console.specs.declared.call.Got.{Got}
-use Rattle.console.specs.declared.call.Next.{Next}
-use Rattle.console.specs.declared.call.Next.TheVariants.{On, Over}
 
--- the error of a call that a signal interrupted (EINTR) is 4
-abbrev pub interrupted : ℕ
-interrupted = 4
+-- the call under std's left an error: all that is asked of it is whether a signal interrupted the call
+abbrev pub error_of : ErrorKind → Call
+error_of Interrupted = Again
+error_of _ = Failed
 
--- std answers in an `io::Result` what the call under it answered: how many bytes it moved, or else -1, which is less than 0
-abbrev pub got_of : Result ℕ Error → ℤ
-got_of (Ok n) = pos n
-got_of (Err e) = negsuc 0
-
--- and which error it left: all that is asked of it is whether a signal interrupted the call
-abbrev pub errno_of_kind : ErrorKind → ℤ
-errno_of_kind Interrupted = pos interrupted
-errno_of_kind _ = pos 0
-
-abbrev pub errno_of : Result ℕ Error → ℤ
-errno_of (Ok n) = pos 0
-errno_of (Err e) = errno_of_kind (error_kind e)
-
-abbrev pub error_of : ℤ → Call
-error_of (pos e) = cond (eqb e interrupted) Again Failed
-error_of (negsuc e) = Failed
-
--- above 0: bytes were moved, and no more than there was room for; 0: the end; below 0: by the error
-unfoldable pub call_of : (got error : ℤ) (room : ℕ) → Call
-call_of (pos n) e room = cond (eqb n 0) Ended (Moved (min n room))
-call_of (negsuc n) e room = error_of e
+-- above 0: bytes were moved, and no more than there was room for; 0: the end; else by the error
+unfoldable pub call_of : Result ℕ Error → (room : ℕ) → Call
+call_of (Ok n) room = cond (eqb n 0) Ended (Moved (min n room))
+call_of (Err e) room = error_of (error_kind e)
 
 -- a write that moves nothing has failed
 abbrev pub sent_of : Call → Call
@@ -45,19 +27,13 @@ sent_of Ended = Failed
 sent_of Again = Again
 sent_of Failed = Failed
 
--- all bytes are there, or none counts
-abbrev pub wholly : ℕ → Got
-wholly n = record { n = n; whole = true }
-
-abbrev pub broken : Got
-broken = record { n = 0; whole = false }
-
--- what comes after a call, with the bytes moved before it and the tries that are left
-abbrev pub next_of : Call → (moved tries : ℕ) → Next
-next_of (Moved n) moved tries = On (moved + n) tries
-next_of Ended moved tries = Over (wholly moved)
-next_of Again moved tries = cond (eqb tries 0) (Over broken) (On moved (tries - 1))
-next_of Failed moved tries = Over broken
+-- what comes after a call, with the bytes moved before it and the tries that are left: on, with those that then are moved and left; or it is over: all
+-- bytes are there, or none counts
+abbrev pub next_of : Call → (moved tries : ℕ) → ControlFlow (Option ℕ) (ℕ × ℕ)
+next_of (Moved n) moved tries = Continue (moved + n, tries)
+next_of Ended moved tries = Break (Some moved)
+next_of Again moved tries = cond (eqb tries 0) (Break None) (Continue (moved, tries - 1))
+next_of Failed moved tries = Break None
 
 -- ---- the contracts
 
@@ -75,8 +51,12 @@ Moving Ended room = Unit {0}
 Moving Again room = Unit {0}
 Moving Failed room = Unit {0}
 
--- what was read stands at the front of the run; where it is not whole, it is nothing
-pub record Read (run : List ℕ) (r : Got) : Type 0 where
-  pub within : r.n ≤ length run
-  pub part : r.n ≡ length (take r.n run)
-  pub failed : r.whole ≡ false → r.n ≡ 0
+-- what was read stands at the front of the run
+pub record Got (run : List ℕ) (n : ℕ) : Type 0 where
+  pub within : n ≤ length run
+  pub part : n ≡ length (take n run)
+
+-- where it is not whole, there is nothing
+abbrev pub Read : (run : List ℕ) → Option ℕ → Type 0
+Read run (Some n) = Got run n
+Read run None = Unit {0}

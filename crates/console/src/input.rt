@@ -2,8 +2,9 @@
 ghost use Rattle.std.specs.Prelude.{◌<◌, length};
 ghost use Rattle.console.specs.Calls.{Moving, Read};
 
-use crate::call::{Call, Got, Next};
+use crate::call::Call;
 use std::io::Read;
+use std::ops::ControlFlow;
 
 // How often an interrupted call is tried again, in all.
 pub(crate) const TRIES: usize = 1000000;
@@ -17,8 +18,8 @@ fn read_some<R: Read>(from: &mut R, buf: &mut [u8]) -> Call
     crate::call::answered(from.read(buf), room)
 }
 
-// Reads to the end of the input, or until `buf` is full. Where a call failed nothing was got, and it is not whole.
-pub fn read_whole<R: Read>(from: &mut R, buf: &mut [u8]) -> Got
+// Reads to the end of the input, or until `buf` is full: how many bytes were got; nothing where a call failed.
+pub fn read_whole<R: Read>(from: &mut R, buf: &mut [u8]) -> Option<usize>
     ensures { Read buf.new result }
 {
     let mut done = 0;
@@ -26,17 +27,14 @@ pub fn read_whole<R: Read>(from: &mut R, buf: &mut [u8]) -> Got
     while done < buf.len() {
         let call = read_some(from, &mut buf[done..]);
         match crate::call::onward(call, done, tries) {
-            Next::On(moved, left) => {
+            ControlFlow::Continue((moved, left)) => {
                 done = moved;
                 tries = left;
             }
-            Next::Over(got) => {
+            ControlFlow::Break(got) => {
                 return got;
             }
         }
     }
-    Got {
-        n: done,
-        whole: true,
-    }
+    Some(done)
 }

@@ -2,8 +2,9 @@
 ghost use Rattle.std.specs.Prelude.{◌≡◌, true, ◌<◌, length};
 ghost use Rattle.console.specs.Calls.{Moving};
 
-use crate::call::{Call, Next};
+use crate::call::Call;
 use std::io::Write;
+use std::ops::ControlFlow;
 
 // One call; there are bytes to write.
 fn write_some<W: Write>(to: &mut W, bytes: &[u8]) -> Call
@@ -22,12 +23,12 @@ pub(crate) fn write_whole<W: Write>(to: &mut W, bytes: &[u8]) -> bool
     while done < bytes.len() {
         let call = write_some(to, &bytes[done..]);
         match crate::call::onward(call, done, tries) {
-            Next::On(moved, left) => {
+            ControlFlow::Continue((moved, left)) => {
                 done = moved;
                 tries = left;
             }
-            Next::Over(got) => {
-                return got.whole;
+            ControlFlow::Break(got) => {
+                return got.is_some();
             }
         }
     }

@@ -2,7 +2,7 @@
 use Prim.Native.Nat.{ℕ, ◌+◌, ◌≤◌, ◌<◌}
 use native.Mathlib.Omega.{arith}
 use mathlib.Core.Path.{◌≡◌, refl}
-use mathlib.Core.Bool.{Bool, true, false}
+use mathlib.Core.Bool.{true, false}
 use mathlib.Core.List.{List, [], ◌++◌}
 use borrow.Author.Tests.{le-leb, lt-leb, leb-true}
 use lib.Dec.{leb}
@@ -13,7 +13,8 @@ use Rattle.model.proofs.Storing.{stored-holds}
 use Rattle.lines.specs.Text.{codes}
 use Rattle.lines.specs.Book.{max_output}
 use Rattle.lines.specs.Said.{unread, roomy, Begun}
-use Rattle.lines.specs.declared.said.Start.TheVariants.{Stop, Answer}
+use Rattle.std.specs.Prelude.{Option, Some, None, Ok, Err}
+use Rattle.std.specs.Borrow.{Bor}
 
 -- nothing stands at the front, and all is as it was
 pub holds-nothing : (l : List ℕ) → Holds l [] l 0
@@ -44,15 +45,15 @@ module _ (name : List ℕ) (out err : ℕ) where
   unfolding roomy
   roomy-output e = leb-true max_output out (and-true (leb max_output out) (leb (length (unread name)) err) e).0
 
-module _ (name : List ℕ) (read : Bool) (room : ℕ) (err err' : List ℕ) where
-  pub begun_silent : roomy name room (length err) ≡ false → Begun name read room err err (Stop 0)
-  begun_silent e = record { start = rw e; line = rw e (holds-nothing err) }
+module _ (name : List ℕ) (room : ℕ) (err err' : List ℕ) where
+  pub begun_silent : (input : Option (Bor (List ℕ))) → roomy name room (length err) ≡ false → Begun name input room err err (Err 0)
+  begun_silent input e = record { start = rw e; line = rw e (holds-nothing err) }
 
-  pub begun_answer : roomy name room (length err) ≡ true → read ≡ true → Begun name read room err err Answer
-  begun_answer e f = record { start = rw (e, f); line = rw (e, f) (holds-nothing err) }
+  pub begun_answer : (b : Bor (List ℕ)) → roomy name room (length err) ≡ true → Begun name (Some b) room err err (Ok b)
+  begun_answer b e = record { start = rw e; line = rw e (holds-nothing err) }
 
-  pub begun_unread : (q : ℕ) → roomy name room (length err) ≡ true → read ≡ false → length name + 35 ≤ length err → Stored err err' 0 q (unread name) → Begun name read room err err' (Stop q)
-  begun_unread q e f h s =
+  pub begun_unread : (q : ℕ) → roomy name room (length err) ≡ true → length name + 35 ≤ length err → Stored err err' 0 q (unread name) → Begun name None room err err' (Err q)
+  begun_unread q e h s =
       let o = stored-holds (omega (arith, unread-size name)) s in
       let z : q ≡ length (unread name) = o.count in
-      record { start = rw (e, f, z); line = rw (e, f) (rw z at o) }
+      record { start = rw (e, z); line = rw e (rw z at o) }

@@ -9,20 +9,17 @@ use lib.ListN.{length, drop, length-drop}
 use lib.Seq.{drop-drop}
 use Rattle.model.proofs.Lists.{split}
 use Rattle.wire.specs.Field.{whole, field_len, field_at}
+use Rattle.std.specs.Option.{option_or}
 use Rattle.std.specs.Prelude.{Some, None}
-use Rattle.wire.proofs.Fields.{field_is, field-not, whole-size}
+use Rattle.wire.proofs.Fields.{whole-size}
 use Rattle.lines.specs.Split.{of_query, query_field_at, size_in, query_size}
 
 -- ---- a field of the query, by the two tags
 
 module _ (s : List ℕ) (at : ℕ) where
-  pub found-k : (n : ℕ) → field_at 0x20 s at ≡ Some n → query_field_at s at ≡ Some n
-  unfolding query_field_at of_query
-  found-k n e = let i = field_is 0x20 s at n e in rw (i.0, i.1)
-
-  pub found-term : field_at 0x20 s at ≡ None → query_field_at s at ≡ field_at 0x21 s at
+  pub field-either : query_field_at s at ≡ option_or (field_at 0x20 s at) (field_at 0x21 s at)
   unfolding query_field_at of_query field_at
-  found-term e = rw (field-not 0x20 s at e)
+  field-either = split (whole 0x20 (drop at s)) (λ w. rw w) (λ w. rw w)
 
   of_is : (n : ℕ) → query_field_at s at ≡ Some n → (of_query (drop at s) ≡ true) × (field_len (drop at s) ≡ n)
   unfolding query_field_at

@@ -1,11 +1,11 @@
 -- What a program says for its input: to standard output its answer, or to standard error that its input could not be read. Assumes nothing.
-use Rattle.std.specs.Prelude.{ℕ, ◌≡◌, Bool, true, false, ◌&&◌, List, [], ◌++◌, leb, length}
+use Rattle.std.specs.Prelude.{ℕ, ◌≡◌, Bool, true, false, ◌&&◌, List, [], ◌++◌, leb, length, Option, Some, None, Result, Ok, Err}
+use Rattle.std.specs.Borrow.{Bor}
+use Rattle.std.specs.Option.{is_some}
 use Rattle.model.specs.Runs.{Holds}
 use Rattle.lines.specs.Text.{codes}
 use Rattle.lines.specs.Book.{max_output}
 use Rattle.lines.specs.declared.said.Said.{Said}
-use Rattle.lines.specs.declared.said.Start.{Start}
-use Rattle.lines.specs.declared.said.Start.TheVariants.{Stop, Answer}
 
 -- one line, with the program's name
 unfoldable pub unread : (name : List ℕ) → List ℕ
@@ -38,13 +38,21 @@ pub record Says (w : Words) (out err out' err' : List ℕ) (r : Said) : Type 0 w
 abbrev pub Speaks : (name : List ℕ) (read : Bool) (answer : List ℕ) (out err out' err' : List ℕ) (r : Said) → Type 0
 Speaks name read answer out err out' err' r = Says (words_of (roomy name (length out) (length err)) read name answer) out err out' err' r
 
+-- ---- the input, where it could be read
+
+-- the bytes of an input that could be read; no bytes where it could not
+abbrev pub input_of : Option (Bor (List ℕ)) → List ℕ
+input_of (Some b) = b.now
+input_of None = []
+
 -- ---- before the answer
 
-abbrev pub start_of : (room read : Bool) (name : List ℕ) → Start
-start_of false read name = Stop 0
-start_of true false name = Stop (length (unread name))
-start_of true true name = Answer
+-- the input that is to be answered, or how many bytes go to standard error
+abbrev pub start_of : (room : Bool) → Option (Bor (List ℕ)) → (name : List ℕ) → Result (Bor (List ℕ)) ℕ
+start_of false input name = Err 0
+start_of true None name = Err (length (unread name))
+start_of true (Some b) name = Ok b
 
-pub record Begun (name : List ℕ) (read : Bool) (room : ℕ) (err err' : List ℕ) (r : Start) : Type 0 where
-  pub start : r ≡ start_of (roomy name room (length err)) read name
-  pub line : Holds err (words_of (roomy name room (length err)) read name []).err err' (length (words_of (roomy name room (length err)) read name []).err)
+pub record Begun (name : List ℕ) (input : Option (Bor (List ℕ))) (room : ℕ) (err err' : List ℕ) (r : Result (Bor (List ℕ)) ℕ) : Type 0 where
+  pub start : r ≡ start_of (roomy name room (length err)) input name
+  pub line : Holds err (words_of (roomy name room (length err)) (is_some input) name []).err err' (length (words_of (roomy name room (length err)) (is_some input) name []).err)

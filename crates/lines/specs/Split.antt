@@ -1,9 +1,7 @@
 -- "The program reads standard input: fields tagged 20 or 21, while whole, are the query; the rest is the shelf." Tags are hexadecimal. A field's
 -- length does not count here: a whole field of a wrong length is the query's, and is refused there. Assumes nothing.
-use Rattle.std.specs.Prelude.{ℕ, zero, suc, ◌+◌, List, Bool, ◌||◌, cond, length, drop}
+use Rattle.std.specs.Prelude.{ℕ, zero, suc, ◌+◌, List, Bool, ◌||◌, cond, length, drop, Option, Some, None}
 use Rattle.wire.specs.Field.{whole, field_len}
-use Rattle.std.specs.Prelude.{Option}
-use Rattle.std.specs.Prelude.{Some, None}
 
 -- the bytes begin with a whole field of one of the query's tags
 unfoldable pub of_query : List ℕ → Bool

@@ -1,8 +1,11 @@
 // The four kinds of line, stored at a place of a lent run that has room for them; each gives the place past it.
 ghost use Rattle.std.specs.Prelude.{◌≡◌, [], ◌∷◌, ◌+◌, ◌≤◌, length};
+ghost use Rattle.model.specs.Refusal.{number};
 ghost use Rattle.model.specs.Runs.{Stored};
 ghost use Rattle.model.specs.Post.{post};
 ghost use Rattle.lines.specs.Text.{line, hit_line, interval_line, block_line, refusal_line};
+
+use model::refusal::Refusal;
 
 // A line of a letter, its numbers and its end.
 fn put_line(out: &mut [u8], at: usize, letter: &[u8], ns: &[u64], end: &[u8]) -> usize
@@ -52,10 +55,10 @@ pub(crate) fn put_blocks(out: &mut [u8], at: usize, opened: usize, all: usize) -
 }
 
 // `R number offset`
-pub fn put_refusal(out: &mut [u8], at: usize, number: u8, offset: usize) -> usize
-    requires { at + length (refusal_line number offset) ≤ length out.old }
-    ensures { Stored out.old out.new at result (refusal_line number offset) }
+pub fn put_refusal(out: &mut [u8], at: usize, refusal: Refusal) -> usize
+    requires { at + length (refusal_line (number refusal.fault) refusal.offset) ≤ length out.old }
+    ensures { Stored out.old out.new at result (refusal_line (number refusal.fault) refusal.offset) }
 {
-    let ns = [number as u64, offset as u64];
+    let ns = [u8::from(refusal.fault) as u64, refusal.offset as u64];
     put_line(out, at, b"R", &ns, b"\n")
 }

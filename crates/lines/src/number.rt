@@ -10,14 +10,9 @@ pub fn put_word(out: &mut [u8], at: usize, word: &[u8]) -> usize
     requires { at + length word.now ≤ length out.old }
     ensures { Stored out.old out.new at result word.now }
 {
-    let mut j = at;
-    let mut i = 0;
-    while i < word.len() {
-        out[j] = word[i];
-        j += 1;
-        i += 1;
-    }
-    j
+    let end = at + word.len();
+    out[at..end].copy_from_slice(word);
+    end
 }
 
 // The digits before the last by the same function, then the last.
@@ -38,12 +33,9 @@ pub(crate) fn put_numbers(out: &mut [u8], at: usize, ns: &[u64]) -> usize
     ensures { Stored out.old out.new at result (numbers ns.now) }
 {
     let mut j = at;
-    let mut i = 0;
-    while i < ns.len() {
-        let n = ns[i];
+    for n in ns {
         j = put_word(out, j, b" ");
-        j = put_number(out, j, n);
-        i += 1;
+        j = put_number(out, j, *n);
     }
     j
 }

@@ -20,10 +20,8 @@ pub(crate) fn put_hits<'a>(
     ensures { Stored out.old out.new at result (hit_lines 1 (take n (postings docids.now scores.now))) }
 {
     let mut j = at;
-    let mut i = 0;
-    while i < n {
-        j = crate::line::put_hit(out, j, i + 1, docids[i], scores[i]);
-        i += 1;
+    for (i, (docid, score)) in docids.iter().zip(scores).take(n).enumerate() {
+        j = crate::line::put_hit(out, j, i + 1, *docid, *score);
     }
     j
 }
@@ -52,11 +50,9 @@ pub(crate) fn put_intervals<'a>(
     ensures { Stored out.old out.new at result (interval_lines max_docid firsts.now ceilings.now marks.now) }
 {
     let mut j = at;
-    let mut i = 0;
-    while i < firsts.len() {
+    for (i, first) in firsts.iter().enumerate() {
         let last = last_docid(firsts, i);
-        j = crate::line::put_interval(out, j, firsts[i], last, ceilings[i], marks[i]);
-        i += 1;
+        j = crate::line::put_interval(out, j, *first, last, ceilings[i], marks[i]);
     }
     j
 }

@@ -11,30 +11,29 @@ pub struct Said {
     pub err: usize,
 }
 
-// A program stops, with so many bytes for standard error; or it answers.
-#[derive(Drop)]
-pub enum Start {
-    Stop(usize),
-    Answer,
-}
-
-// Before a program answers: its name, whether its input was read, the room for its output, and a run for what goes to standard error.
-pub fn begin(name: &[u8], read: bool, room: usize, err: &mut [u8]) -> Start
-    ensures { Begun name.now read room err.old err.new result }
+// Before a program answers: its name, its input where that was read, the room for its output, and a run for what goes to standard error. The input that
+// is to be answered; or the program stops, with so many bytes for standard error.
+pub fn begin<'a>(
+    name: &[u8],
+    input: Option<&'a [u8]>,
+    room: usize,
+    err: &mut [u8],
+) -> Result<&'a [u8], usize>
+    ensures { Begun name.now input.entry room err.old err.new result }
 {
     let unread = b": standard input could not be read\n";
     if room < MAX_OUTPUT {
-        return Start::Stop(0);
+        return Err(0);
     }
     if err.len() < unread.len() {
-        return Start::Stop(0);
+        return Err(0);
     }
     if err.len() - unread.len() < name.len() {
-        return Start::Stop(0);
+        return Err(0);
     }
-    if read {
-        return Start::Answer;
+    if let Some(bytes) = input {
+        return Ok(bytes);
     }
     let p = crate::number::put_word(err, 0, name);
-    Start::Stop(crate::number::put_word(err, p, unread))
+    Err(crate::number::put_word(err, p, unread))
 }

@@ -135,16 +135,6 @@ pub record Gathering (s ats sizes : List ℕ) (t all : ℕ) (ends : List ℕ) (n
   pub laid : Lays (flat (found_lists s ats sizes t)) 0 all none new
   pub held : Holds (replicate max_terms 0) (ends_from 0 (found_lists s ats sizes t)) ends t
 
-pub gathering_start : (s ats sizes : List ℕ) → Gathering s ats sizes 0 0 (replicate max_terms 0) none
-gathering_start s ats sizes = record {
-  few = omega arith;
-  laid = record { los = nothing; his = nothing; tops = nothing; counts = nothing; bodies = nothing };
-  held = record { count = refl; whole = refl };
-}
-  where
-    nothing : Stored (replicate max_blocks 0) (replicate max_blocks 0) 0 0 []
-    nothing = record { past = refl; whole = refl }
-
 stored_more : (f : Block → ℕ) (l m o : List ℕ) (q r : ℕ) (bs cs ds : List Block) → ds ≡ bs ++ cs → Stored l m 0 q (map f bs) → Stored m o q r (map f cs) → Stored l o 0 r (map f ds)
 stored_more f l m o q r bs cs ds e h k = stored_as (sym (ap (λ (x : List Block). map f x) e ∙ map-append f bs cs)) (stored-append h k)
 

@@ -28,13 +28,11 @@ fn note<'a>(
     requires { (n ≤ 8) × (length terms.now ≡ 8) × (length ats.old ≡ 8) × (length counts.old ≡ 8) }
     ensures { Notes terms.now n list ats.old counts.old ats.new counts.new }
 {
-    let mut i = 0;
-    while i < n {
-        if terms[i] == list.term {
+    for (i, term) in terms[0..n].iter().enumerate() {
+        if *term == list.term {
             ats[i] = list.at;
             counts[i] = list.count;
         }
-        i += 1;
     }
 }
 
@@ -108,8 +106,6 @@ pub fn gather(s: &[u8], found: Found, n: usize) -> Blocks
     requires { Gatherable s.now found.ats found.counts n }
     ensures { Gathered (found_lists s.now found.ats found.counts n) result }
 {
-    let ats = found.ats;
-    let sizes = found.counts;
     let mut ends = [0usize; 8];
     let mut los = [0u32; 512];
     let mut his = [0u32; 512];
@@ -117,14 +113,11 @@ pub fn gather(s: &[u8], found: Found, n: usize) -> Blocks
     let mut counts = [0u8; 512];
     let mut bodies = [0u32; 512];
     let mut all = 0;
-    let mut t = 0;
-    while t < n {
-        let at = ats[t];
-        let size = sizes[t];
+    for t in 0..n {
         all = lay_list(
             s,
-            at,
-            size,
+            found.ats[t],
+            found.counts[t],
             all,
             &mut los,
             &mut his,
@@ -133,15 +126,14 @@ pub fn gather(s: &[u8], found: Found, n: usize) -> Blocks
             &mut bodies,
         );
         ends[t] = all;
-        t += 1;
     }
     Blocks {
         n: all,
-        ends: ends,
-        los: los,
-        his: his,
-        tops: tops,
-        counts: counts,
-        bodies: bodies,
+        ends,
+        los,
+        his,
+        tops,
+        counts,
+        bodies,
     }
 }

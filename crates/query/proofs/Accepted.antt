@@ -12,31 +12,30 @@ use Rattle.wire.specs.Number.{num}
 use Rattle.wire.proofs.Numbers.{num-below}
 use Rattle.query.specs.Query.{Asked, Question, terms_in, question, field_count, all_right, judge, asked}
 use Rattle.query.specs.Range.{InRange}
-use Rattle.query.specs.declared.fields.FieldsRead.{FieldsRead}
-use Rattle.query.specs.declared.fields.FieldsRead.TheVariants.{Terms, Wrong}
+use Rattle.std.specs.Prelude.{Result, Ok, Err}
 use Rattle.query.proofs.Parts.{fields_size}
 use Rattle.query.proofs.Judging.{then_done, faultless}
 use Rattle.query.proofs.Apart.{weights-above, unrepeated-once}
 
 -- the fields of an accepted query are right, the tests find nothing, and its fields say what it asks
 pub record Accepted (s : List ℕ) (x : Question) (n : ℕ) : Type 0 where
-  pub counted : field_count s ≡ Terms n
+  pub counted : field_count s ≡ Ok n
   pub clear : judge (length s) x ≡ done tt
   pub says : question (num 1 (drop 3 s)) n s ≡ x
 
-abbrev answer : (s : List ℕ) → FieldsRead → Outcome Question
+abbrev answer : (s : List ℕ) → Result ℕ ℕ → Outcome Question
 answer s r =
     and_then (all_right r) (λ n.
     let x = question (num 1 (drop 3 s)) n s in
     and_then (judge (length s) x) (λ ok. done x))
 
-by_fields : (s : List ℕ) (x : Question) (r : FieldsRead) → field_count s ≡ r → answer s r ≡ done x → (n : ℕ) × Accepted s x n
-by_fields s x (Terms n) f g =
+by_fields : (s : List ℕ) (x : Question) (r : Result ℕ ℕ) → field_count s ≡ r → answer s r ≡ done x → (n : ℕ) × Accepted s x n
+by_fields s x (Ok n) f g =
     let d = then_done (judge (length s) (question (num 1 (drop 3 s)) n s)) (λ ok. done (question (num 1 (drop 3 s)) n s)) x g in
     let says : done (question (num 1 (drop 3 s)) n s) ≡ done x = d.1 in
     let same : question (num 1 (drop 3 s)) n s ≡ x = cc in
     (n, record { counted = f; clear = rw same at d.0; says = same })
-by_fields s x (Wrong at) f g = let z : ◌≡◌ {A = ℕ} 0 1 = cc in absurd (omega arith)
+by_fields s x (Err at) f g = let z : ◌≡◌ {A = ℕ} 0 1 = cc in absurd (omega arith)
 
 pub accepted : (s : List ℕ) (x : Question) → asked s ≡ done x → (n : ℕ) × Accepted s x n
 unfolding asked

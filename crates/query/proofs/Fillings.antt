@@ -7,7 +7,7 @@ use lib.ListN.{length, set, drop}
 use Rattle.model.specs.Limits.{max_terms}
 use Rattle.model.specs.Runs.{Stored, Holds}
 use Rattle.model.proofs.Lists.{map-length}
-use Rattle.model.proofs.Storing.{Rest, rest-start, rest-turn, rest_end, stored-holds}
+use Rattle.model.proofs.Storing.{Rest, rest-turn, rest_end, stored-holds}
 use Rattle.query.specs.Query.{Asked, term_at, asked_in, terms_in, question}
 use Rattle.query.specs.Answers.{zeros, Carries}
 use Rattle.query.proofs.Parts.{terms-length, terms-none, terms-more}
@@ -16,9 +16,6 @@ use Rattle.query.proofs.Parts.{terms-length, terms-none, terms-more}
 module _ (f : Asked → ℕ) (s : List ℕ) (n : ℕ) where
   abbrev pub Part : (i : ℕ) → List ℕ → Type 0
   Part i run = Rest zeros run 0 i (map f (terms_in n (drop 4 s))) (map f (terms_in (n - i) (drop (term_at i) s)))
-
-  part-start : Part 0 zeros
-  part-start = let z : n - 0 ≡ n = omega arith in rw z (rest-start zeros 0 (map f (terms_in n (drop 4 s))))
 
   part-turn : (i : ℕ) (run : List ℕ) → i < n → Part i run → Part (i + 1) (set run i (f (asked_in (drop (term_at i) s))))
   part-turn i run h p =
@@ -37,9 +34,6 @@ pub record Filling (s : List ℕ) (n i : ℕ) (terms weights : List ℕ) : Type 
   pub below : i ≤ n
   pub termed : Part (λ a. a.term) s n i terms
   pub weighed : Part (λ a. a.weight) s n i weights
-
-pub filling_start : (s : List ℕ) (n : ℕ) → Filling s n 0 zeros zeros
-filling_start s n = record { below = omega arith; termed = part-start _ s n; weighed = part-start _ s n }
 
 module _ (s : List ℕ) (n i : ℕ) (terms weights : List ℕ) (c : Filling s n i terms weights) where
   pub filling_turn : i < n → Filling s n (i + 1) (set terms i (asked_in (drop (term_at i) s)).term) (set weights i (asked_in (drop (term_at i) s)).weight)

@@ -1,7 +1,7 @@
 -- Refusals 2 to 5, by the tests that the code makes. Assumes nothing.
 use Prim.Native.Nat.{ℕ, ◌+◌, ◌-◌, ◌≤◌, ◌<◌}
 use native.Mathlib.Omega.{arith}
-use mathlib.Core.Path.{◌≡◌, refl, sym, ap, ◌∙◌}
+use mathlib.Core.Path.{◌≡◌, refl, ◌∙◌}
 use mathlib.Core.List.{List, []}
 use mathlib.Core.Bool.{Bool, true, false, ◌&&◌}
 use borrow.Author.Tests.{leb-true, ltb-true, le-leb, lt-leb, eq-eqb, ne_eqb, lt-ltb, le-ltb}
@@ -12,13 +12,8 @@ use Rattle.model.specs.Outcome.{Outcome, refused, done, and_then}
 use Rattle.model.specs.Runs.{has}
 use Rattle.model.proofs.Lists.{and-true}
 use Rattle.wire.specs.Number.{num}
-use Rattle.query.specs.Query.{Question, term_at, asked_in, terms_in, question, field_count, unless, weighted, unrepeated, judge, asked}
-use Rattle.query.specs.Answers.{paper, earlier, Carries, Tells}
-use Rattle.query.specs.declared.read.Query.{Query}
-use Rattle.query.specs.declared.read.QueryRead.{QueryRead}
-use Rattle.query.specs.declared.read.Verdict.{Verdict}
-use Rattle.query.specs.declared.read.Verdict.TheVariants.{Good, Bad}
-use Rattle.query.specs.declared.fields.FieldsRead.TheVariants.{Terms, Wrong}
+use Rattle.query.specs.Query.{Question, term_at, asked_in, terms_in, question, field_count, all_right, unless, weighted, unrepeated, judge, asked}
+use Rattle.query.specs.Answers.{earlier}
 use Rattle.query.proofs.Parts.{terms-length, terms-none, terms-more, earlier_more}
 
 -- ---- from the term field with index i on, of n
@@ -28,13 +23,6 @@ weighted_from n i s = weighted i (terms_in (n - i) (drop (term_at i) s))
 
 abbrev pub unrepeated_from : (n i : ℕ) → List ℕ → Outcome (Unit {0})
 unrepeated_from n i s = unrepeated (earlier i s) i (terms_in (n - i) (drop (term_at i) s))
-
--- from the first on they are all
-pub weights-start : (n : ℕ) (s : List ℕ) → weighted 0 (terms_in n (drop 4 s)) ≡ weighted_from n 0 s
-weights-start n s = let z : n - 0 ≡ n = omega arith in rw z
-
-pub repeats_start : (n : ℕ) (s : List ℕ) → unrepeated [] 0 (terms_in n (drop 4 s)) ≡ unrepeated_from n 0 s
-repeats_start n s = let z : n - 0 ≡ n = omega arith in rw z
 
 module _ (n i : ℕ) (s : List ℕ) where
   pub weights-end : n ≤ i → weighted_from n i s ≡ done tt
@@ -57,10 +45,6 @@ module _ (n i : ℕ) (s : List ℕ) where
     repeats_next e = rw (terms-more n i s h, e, earlier_more i s)
 
 -- ---- one after the other
-
--- what a verdict that is known says
-told : (v w : Verdict) {r : Outcome (Unit {0})} → paper v ≡ r → v ≡ w → r ≡ paper w
-told v w e f = sym e ∙ ap paper f
 
 module _ (size k n : ℕ) (s : List ℕ) where
   pub judge_no_k : k ≡ 0 → judge size (question k n s) ≡ refused 2 0
@@ -88,13 +72,13 @@ module _ (size k n : ℕ) (s : List ℕ) where
         judge-rest h =
             rw (lt-ltb 0 k (omega arith), le-leb k max_k small, terms-length n (drop 4 s), lt-ltb 0 n (omega arith), le-leb n max_terms h)
 
-        -- by the verdict on the weights
-        module _ (few : n ≤ max_terms) (v : Verdict) (e : paper v ≡ weighted 0 (terms_in n (drop 4 s))) where
-          pub judge-weight : (number at : ℕ) → v ≡ Bad number at → judge size (question k n s) ≡ refused number at
-          judge-weight number at f = judge-rest few ∙ rw (told v (Bad number at) e f)
+        -- by what was found of the weights
+        module _ (few : n ≤ max_terms) where
+          pub judge-weight : (number at : ℕ) → weighted 0 (terms_in n (drop 4 s)) ≡ refused number at → judge size (question k n s) ≡ refused number at
+          judge-weight number at f = judge-rest few ∙ rw f
 
-          pub judge_repeat : v ≡ Good → judge size (question k n s) ≡ unrepeated [] 0 (terms_in n (drop 4 s))
-          judge_repeat f = judge-rest few ∙ rw (told v Good e f)
+          pub judge_repeat : weighted 0 (terms_in n (drop 4 s)) ≡ done tt → judge size (question k n s) ≡ unrepeated [] 0 (terms_in n (drop 4 s))
+          judge_repeat f = judge-rest few ∙ rw f
 
 -- ---- a question in which no fault was found
 
@@ -131,28 +115,22 @@ faultless size x e =
       once = d.1;
     }
 
--- ---- from the verdict on the fields and on the terms to the answer
+-- ---- from what was found of the fields and of the terms to the answer
 
 module _ (s : List ℕ) where
-  pub asked-wrong : (at : ℕ) → field_count s ≡ Wrong at → asked s ≡ refused 1 at
+  pub asked-wrong : (number at : ℕ) → all_right (field_count s) ≡ refused number at → asked s ≡ refused number at
   unfolding asked
-  asked-wrong at e = rw e
+  asked-wrong number at e = rw e
 
-  module _ (n k : ℕ) (e : field_count s ≡ Terms n) (first : k ≡ num 1 (drop 3 s)) (v : Verdict) (judged : paper v ≡ judge (length s) (question k n s)) where
-    pub asked_bad : (number at : ℕ) → v ≡ Bad number at → asked s ≡ refused number at
+  module _ (n k : ℕ) (e : all_right (field_count s) ≡ done n) (first : k ≡ num 1 (drop 3 s)) where
+    pub asked_bad : (number at : ℕ) → judge (length s) (question k n s) ≡ refused number at → asked s ≡ refused number at
     unfolding asked
-    asked_bad number at f = rw (e, ← first, told v (Bad number at) judged f)
+    asked_bad number at f = rw (e, ← first, f)
 
-    pub asked-good : v ≡ Good → asked s ≡ done (question k n s)
+    pub asked-good : judge (length s) (question k n s) ≡ done tt → asked s ≡ done (question k n s)
     unfolding asked
-    asked-good f = rw (e, ← first, told v Good judged f)
+    asked-good f = rw (e, ← first, f)
 
 -- there is room for the terms of an accepted query
-pub good-few : (size k n : ℕ) (s : List ℕ) (v : Verdict) → paper v ≡ judge size (question k n s) → v ≡ Good → n ≤ max_terms
-good-few size k n s v e f = omega (arith, (faultless size (question k n s) (told v Good e f)).few, terms-length n (drop 4 s))
-
-pub tells_refused : (s : List ℕ) (number at : ℕ) (r : QueryRead) → asked s ≡ refused number at → Tells (refused number at) r → Tells (asked s) r
-tells_refused s number at r e t = rw e t
-
-pub tells_done : (s : List ℕ) (x : Question) (q : Query) → asked s ≡ done x → Carries x q → Tells (asked s) (record { verdict = Good; query = q })
-tells_done s x q e c = rw e (record { verdict = refl; query = c })
+pub good-few : (size k n : ℕ) (s : List ℕ) → judge size (question k n s) ≡ done tt → n ≤ max_terms
+good-few size k n s e = omega (arith, (faultless size (question k n s) e).few, terms-length n (drop 4 s))

@@ -2,7 +2,6 @@
 pub mod Parts
 pub mod Judging
 pub mod Fillings
-pub mod Verdicts
 pub mod Apart
 pub mod Accepted
 pub mod Written

@@ -15,7 +15,7 @@ use Rattle.wire.specs.Field.{whole, field_len, field_value, field_bytes}
 use Rattle.wire.proofs.Numbers.{be-num, be-length}
 use Rattle.wire.proofs.Fields.{field-only}
 use Rattle.query.specs.Query.{Question, tag_k, tag_term, is_field, asked_in, terms_in, term_at, question, term_count, field_count, asked, term_bytes, question_bytes}
-use Rattle.query.specs.declared.fields.FieldsRead.TheVariants.{Terms, Wrong}
+use Rattle.std.specs.Prelude.{Ok, Err}
 use Rattle.query.proofs.Parts.{is-field-room, count-size}
 use Rattle.query.proofs.Accepted.{Accepted, accepted}
 
@@ -41,7 +41,7 @@ term-only s b e =
     let parts : take 5 (drop 3 s) ≡ take 4 (drop 3 s) ++ take 1 (drop 7 s) = take-add 4 1 (drop 3 s) ∙ rw (drop-drop 4 3 s) in
     rw (← be-take 4 (drop 3 s) (bytes_drop 3 s b) four, ← be-take 1 (drop 7 s) (bytes_drop 7 s b) one, ← parts) (field-parts tag_term 5 s b e)
 
-terms-only : (fuel n j : ℕ) (l : List ℕ) → Bytes l → term_count fuel n l ≡ Terms (n + j) → term_bytes (terms_in j l) ≡ l
+terms-only : (fuel n j : ℕ) (l : List ℕ) → Bytes l → term_count fuel n l ≡ Ok (n + j) → term_bytes (terms_in j l) ≡ l
 unfolding term_count terms_in term_bytes
 terms-only zero n j [] b e = let z : j ≡ 0 = omega (arith, count-size zero n [] (n + j) e) in rw z
 terms-only (suc fuel) n j [] b e = let z : j ≡ 0 = omega (arith, count-size (suc fuel) n [] (n + j) e) in rw z
@@ -50,24 +50,24 @@ terms-only (suc fuel) n zero (x ∷ l) b e = absurd (omega (arith, count-size (s
 terms-only (suc fuel) n (suc j) (x ∷ l) b e =
     split (is_field tag_term 5 (x ∷ l))
     (λ w.
-    let f : term_count fuel (n + 1) (drop 8 (x ∷ l)) ≡ Terms (n + suc j) = rw w at e in
+    let f : term_count fuel (n + 1) (drop 8 (x ∷ l)) ≡ Ok (n + suc j) = rw w at e in
     let g : n + suc j ≡ n + 1 + j = omega arith in
-    rw (terms-only fuel (n + 1) j (drop 8 (x ∷ l)) (bytes_drop 8 (x ∷ l) b) (f ∙ ap Terms g)) (term-only (x ∷ l) b w))
+    rw (terms-only fuel (n + 1) j (drop 8 (x ∷ l)) (bytes_drop 8 (x ∷ l) b) (f ∙ ap Ok g)) (term-only (x ∷ l) b w))
     (λ w.
-    let f : Wrong (term_at n) ≡ Terms (n + suc j) = rw w at e in
+    let f : Err (term_at n) ≡ Ok (n + suc j) = rw w at e in
     let z : ◌≡◌ {A = ℕ} 0 1 = cc in
     absurd (omega arith))
 
-fields_only : (s : List ℕ) (n : ℕ) → Bytes s → field_count s ≡ Terms n → question_bytes (question (num 1 (drop 3 s)) n s) ≡ s
+fields_only : (s : List ℕ) (n : ℕ) → Bytes s → field_count s ≡ Ok n → question_bytes (question (num 1 (drop 3 s)) n s) ≡ s
 unfolding field_count question_bytes
 fields_only s n b e =
     split (is_field tag_k 1 s)
     (λ w.
-    let f : term_count (length s) 0 (drop 4 s) ≡ Terms n = rw w at e in
+    let f : term_count (length s) 0 (drop 4 s) ≡ Ok n = rw w at e in
     let g : n ≡ 0 + n = omega arith in
-    rw (terms-only (length s) 0 n (drop 4 s) (bytes_drop 4 s b) (f ∙ ap Terms g)) (k-only s b w))
+    rw (terms-only (length s) 0 n (drop 4 s) (bytes_drop 4 s b) (f ∙ ap Ok g)) (k-only s b w))
     (λ w.
-    let f : Wrong 0 ≡ Terms n = rw w at e in
+    let f : Err 0 ≡ Ok n = rw w at e in
     let z : ◌≡◌ {A = ℕ} 0 1 = cc in
     absurd (omega arith))
 

@@ -17,7 +17,7 @@ use Rattle.wire.proofs.Fields.{field-size, head-drop, len_round, whole_round, pa
 use Rattle.query.specs.Query.{Asked, Question, tag_k, tag_term, is_field, asked_in, terms_in, question, term_count, field_count, judge, asked, term_bytes, question_bytes}
 use Rattle.model.proofs.Lists.{All_map}
 use Rattle.query.specs.Range.{Fits, InRange}
-use Rattle.query.specs.declared.fields.FieldsRead.TheVariants.{Terms}
+use Rattle.std.specs.Prelude.{Ok}
 use Rattle.query.proofs.Parts.{count_none, count-some}
 use Rattle.query.proofs.Apart.{above-weights, once-unrepeated, clear_none}
 
@@ -68,12 +68,12 @@ no_terms : length (term_bytes []) ≡ 0
 unfolding term_bytes
 no_terms = refl
 
-count_round : (fuel n : ℕ) (xs : List Asked) → length (term_bytes xs) ≤ fuel → term_count fuel n (term_bytes xs) ≡ Terms (n + length xs)
-count_round fuel n [] h = count_none fuel n (term_bytes []) (omega (arith, no_terms)) ∙ ap Terms (omega arith)
+count_round : (fuel n : ℕ) (xs : List Asked) → length (term_bytes xs) ≤ fuel → term_count fuel n (term_bytes xs) ≡ Ok (n + length xs)
+count_round fuel n [] h = count_none fuel n (term_bytes []) (omega (arith, no_terms)) ∙ ap Ok (omega arith)
 count_round fuel n (a ∷ rest) h =
     let size = term-size a rest in
     count-some fuel n (term_bytes (a ∷ rest)) (omega arith) (omega arith)
-    ∙ rw (term_is a rest, term-past a rest) (count_round (fuel - 1) (n + 1) rest (omega arith) ∙ ap Terms (omega arith))
+    ∙ rw (term_is a rest, term-past a rest) (count_round (fuel - 1) (n + 1) rest (omega arith) ∙ ap Ok (omega arith))
 
 terms_round : (xs : List Asked) → All Fits xs → terms_in (length xs) (term_bytes xs) ≡ xs
 unfolding terms_in term_bytes
@@ -100,9 +100,9 @@ module _ (x : Question) where
   unfolding question_bytes
   k_round h = rw (head-drop tag_k (be 1 x.k) (term_bytes x.terms)) (num-be 1 x.k (term_bytes x.terms) (omega arith))
 
-  fields_round : field_count (question_bytes x) ≡ Terms (length x.terms)
+  fields_round : field_count (question_bytes x) ≡ Ok (length x.terms)
   unfolding field_count
-  fields_round = rw (k-is, k-past) (count_round (length (question_bytes x)) 0 x.terms (omega (arith, k-size)) ∙ ap Terms (omega arith))
+  fields_round = rw (k-is, k-past) (count_round (length (question_bytes x)) 0 x.terms (omega (arith, k-size)) ∙ ap Ok (omega arith))
 
   module _ (r : InRange x) where
     clear : (size : ℕ) → judge size x ≡ done tt

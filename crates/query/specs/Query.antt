@@ -1,13 +1,11 @@
 -- "A query is a field tag 20, length 1 (k), then one field tag 21, length 5, per term: term (4), weight (1)." Tags are hexadecimal, as in the
 -- paper's example. Refusals 1 to 5, each judged over the whole query before the next. Assumes nothing.
-use Rattle.std.specs.Prelude.{ℕ, zero, suc, ◌+◌, ◌*◌, List, [], ◌∷◌, ◌++◌, map, Bool, true, false, cond, ◌&&◌, leb, ltb, eqb, length, drop}
+use Rattle.std.specs.Prelude.{ℕ, zero, suc, ◌+◌, ◌*◌, List, [], ◌∷◌, ◌++◌, map, Bool, true, false, cond, ◌&&◌, leb, ltb, eqb, length, drop, Result, Ok, Err}
 use Rattle.model.specs.Limits.{max_k, max_terms}
 use Rattle.model.specs.Outcome.{Outcome, refused, done, and_then}
 use Rattle.model.specs.Runs.{has}
 use Rattle.wire.specs.Number.{num, be}
 use Rattle.wire.specs.Field.{whole, field_len, field_bytes}
-use Rattle.query.specs.declared.fields.FieldsRead.{FieldsRead}
-use Rattle.query.specs.declared.fields.FieldsRead.TheVariants.{Terms, Wrong}
 
 pub record Asked : Type 0 where
   pub term : ℕ
@@ -55,15 +53,15 @@ question k n s = record { k = k; terms = terms_in n (drop 4 s) }
 
 -- "then one field tag 21, length 5, per term": how many there are when the query ends, where n stand before the bytes s; or the first that is not
 -- so. There are fewer fields than bytes, so `fuel`, the number of bytes, is enough.
-unfoldable pub term_count : (fuel n : ℕ) → List ℕ → FieldsRead
-term_count zero n [] = Terms n
-term_count zero n (b ∷ s) = Wrong (term_at n)
-term_count (suc fuel) n [] = Terms n
-term_count (suc fuel) n (b ∷ s) = cond (is_field tag_term 5 (b ∷ s)) (term_count fuel (n + 1) (drop 8 (b ∷ s))) (Wrong (term_at n))
+unfoldable pub term_count : (fuel n : ℕ) → List ℕ → Result ℕ ℕ
+term_count zero n [] = Ok n
+term_count zero n (b ∷ s) = Err (term_at n)
+term_count (suc fuel) n [] = Ok n
+term_count (suc fuel) n (b ∷ s) = cond (is_field tag_term 5 (b ∷ s)) (term_count fuel (n + 1) (drop 8 (b ∷ s))) (Err (term_at n))
 
 -- "a field tag 20, length 1 (k)" before them
-unfoldable pub field_count : List ℕ → FieldsRead
-field_count s = cond (is_field tag_k 1 s) (term_count (length s) 0 (drop 4 s)) (Wrong 0)
+unfoldable pub field_count : List ℕ → Result ℕ ℕ
+field_count s = cond (is_field tag_k 1 s) (term_count (length s) 0 (drop 4 s)) (Err 0)
 
 -- ---- refusals
 
@@ -73,9 +71,9 @@ unless true number at = done tt
 unless false number at = refused number at
 
 -- 1: "query fields wrong or cut short: first such field, or query length", which is 0 in a query of no bytes
-abbrev pub all_right : FieldsRead → Outcome ℕ
-all_right (Terms n) = done n
-all_right (Wrong at) = refused 1 at
+abbrev pub all_right : Result ℕ ℕ → Outcome ℕ
+all_right (Ok n) = done n
+all_right (Err at) = refused 1 at
 
 -- 4: "weight 0: first such field", where i fields stand before these
 abbrev pub weighted : (i : ℕ) → List Asked → Outcome (Unit {0})

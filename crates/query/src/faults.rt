@@ -1,24 +1,23 @@
 // Refusals 2 to 5, in this order, of a query whose `n` term fields are all right.
 ghost use Rattle.std.specs.Prelude.{◌≡◌, [], ◌≤◌, length, drop};
+ghost use Rattle.model.specs.Refusal.{outcome_of};
 ghost use Rattle.model.specs.Runs.{has};
 ghost use Rattle.query.specs.Query.{term_at, terms_in, question, weighted, unrepeated, judge};
-ghost use Rattle.query.specs.Answers.{paper, earlier};
+ghost use Rattle.query.specs.Answers.{earlier};
 
-use crate::read::Verdict;
+use model::refusal::{Fault, Refusal};
 
 // 4: the first weight of 0.
-fn judge_weights(q: &[u8], n: usize) -> Verdict
+fn judge_weights(q: &[u8], n: usize) -> Result<(), Refusal>
     requires { term_at n ≤ length q.now }
-    ensures { paper result ≡ weighted 0 (terms_in n (drop 4 q.now)) }
+    ensures { outcome_of result ≡ weighted 0 (terms_in n (drop 4 q.now)) }
 {
-    let mut i = 0;
-    while i < n {
+    for i in 0..n {
         if crate::fields::weight_of(q, i) == 0 {
-            return Verdict::Bad(4, 4 + 8 * i);
+            return Err(Fault::Weight.at(4 + 8 * i));
         }
-        i += 1;
     }
-    Verdict::Good
+    Ok(())
 }
 
 // Whether one of the first `i` term fields has this term.
@@ -26,50 +25,39 @@ fn is_earlier(q: &[u8], i: usize, term: u32) -> bool
     requires { term_at i ≤ length q.now }
     ensures { result ≡ has term (earlier i q.now) }
 {
-    let mut j = i;
-    while 0 < j {
-        j -= 1;
-        if crate::fields::term_of(q, j) == term {
-            return true;
-        }
-    }
-    false
+    (0..i).any(|j| crate::fields::term_of(q, j) == term)
 }
 
 // 5: the first term that an earlier field has.
-fn judge_repeats(q: &[u8], n: usize) -> Verdict
+fn judge_repeats(q: &[u8], n: usize) -> Result<(), Refusal>
     requires { term_at n ≤ length q.now }
-    ensures { paper result ≡ unrepeated [] 0 (terms_in n (drop 4 q.now)) }
+    ensures { outcome_of result ≡ unrepeated [] 0 (terms_in n (drop 4 q.now)) }
 {
-    let mut i = 0;
-    while i < n {
+    for i in 0..n {
         if is_earlier(q, i, crate::fields::term_of(q, i)) {
-            return Verdict::Bad(5, 4 + 8 * i);
+            return Err(Fault::RepeatedTerm.at(4 + 8 * i));
         }
-        i += 1;
     }
-    Verdict::Good
+    Ok(())
 }
 
 // 2, 3, 4 and 5, each over the whole query before the next.
-pub(crate) fn judge_terms(q: &[u8], k: u8, n: usize) -> Verdict
+pub(crate) fn judge_terms(q: &[u8], k: u8, n: usize) -> Result<(), Refusal>
     requires { term_at n ≤ length q.now }
-    ensures { paper result ≡ judge (length q.now) (question k n q.now) }
+    ensures { outcome_of result ≡ judge (length q.now) (question k n q.now) }
 {
     if k == 0 {
-        return Verdict::Bad(2, 0);
+        return Err(Fault::HitCount.at(0));
     }
     if model::MAX_K < k {
-        return Verdict::Bad(2, 0);
+        return Err(Fault::HitCount.at(0));
     }
     if n == 0 {
-        return Verdict::Bad(3, q.len());
+        return Err(Fault::TermCount.at(q.len()));
     }
     if model::MAX_TERMS < n {
-        return Verdict::Bad(3, 4 + 8 * model::MAX_TERMS);
+        return Err(Fault::TermCount.at(4 + 8 * model::MAX_TERMS));
     }
-    match judge_weights(q, n) {
-        Verdict::Bad(number, at) => Verdict::Bad(number, at),
-        Verdict::Good => judge_repeats(q, n),
-    }
+    judge_weights(q, n)?;
+    judge_repeats(q, n)
 }

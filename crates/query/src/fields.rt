@@ -1,49 +1,41 @@
 // The fields of a query: one of tag 20 for k, then one of tag 21 per term. A right field of k takes 4 bytes and one of a term 8, so the term field
 // with index `i` begins at 4 + 8 * i.
 ghost use Rattle.std.specs.Prelude.{◌≡◌, ◌+◌, ◌≤◌, length, drop};
-ghost use Rattle.query.specs.Query.{is_field, asked_in, field_count, term_at};
+ghost use Rattle.model.specs.Refusal.{outcome_of};
+ghost use Rattle.query.specs.Query.{is_field, asked_in, field_count, all_right, term_at};
 
-use wire::field::FieldRead;
+use model::refusal::{Fault, Refusal};
 
 // Tags 20 and 21, which the paper writes in hexadecimal.
 const TAG_K: u8 = 32;
 
 const TAG_TERM: u8 = 33;
 
-// How many term fields there are; or where the first field stands that is wrong or cut short.
-#[derive(Drop)]
-pub enum FieldsRead {
-    Terms(usize),
-    Wrong(usize),
-}
-
 // Whether a whole field of this tag and length begins at a place.
 fn is_field(q: &[u8], at: usize, tag: u8, len: usize) -> bool
     ensures { result ≡ is_field tag len (drop at q.now) }
 {
-    match wire::field::field(q, at, tag) {
-        FieldRead::Whole(n) => n == len,
-        FieldRead::Missing => false,
-    }
+    wire::field::field(q, at, tag) == Some(len)
 }
 
-// Passes over all fields up to the query's end: number 1 is judged over the whole query before any other.
-pub(crate) fn count_fields(q: &[u8]) -> FieldsRead
-    ensures { result ≡ field_count q.now }
+// How many term fields there are; or 1, at the first field that is wrong or cut short. It passes over all fields up to the query's end: 1 is judged over
+// the whole query before any other.
+pub(crate) fn count_fields(q: &[u8]) -> Result<usize, Refusal>
+    ensures { outcome_of result ≡ all_right (field_count q.now) }
 {
     if !is_field(q, 0, TAG_K, 1) {
-        return FieldsRead::Wrong(0);
+        return Err(Fault::QueryField.at(0));
     }
     let mut n = 0;
     let mut at = 4;
     while at < q.len() {
         if !is_field(q, at, TAG_TERM, 5) {
-            return FieldsRead::Wrong(at);
+            return Err(Fault::QueryField.at(at));
         }
         at += 8;
         n += 1;
     }
-    FieldsRead::Terms(n)
+    Ok(n)
 }
 
 // The term of the term field with index `i`.

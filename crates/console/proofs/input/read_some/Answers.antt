@@ -3,4 +3,4 @@ use Rattle.console.proofs.Judged.{moving_judged}
 use Rattle.console.proofs.input.read_some.Goals as goal
 
 pub returns : goal.returns
-returns g c = moving_judged _ _ _ c.answered.result c.requires c.answered.ensures
+returns g c = moving_judged _ _ c.answered.result c.requires c.answered.ensures

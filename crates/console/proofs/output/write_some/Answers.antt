@@ -6,4 +6,4 @@ use Rattle.console.proofs.output.write_some.Goals as goal
 pub returns : goal.returns
 returns g c =
     let size = length c.args.bytes.now in
-    moving_sent c.answered.result size c.sent.result (moving_judged _ _ size c.answered.result c.requires c.answered.ensures) c.sent.ensures
+    moving_sent c.answered.result size c.sent.result (moving_judged _ size c.answered.result c.requires c.answered.ensures) c.sent.ensures

@@ -1,43 +1,41 @@
 -- `lines::rows::put_hits` meets its contract. The invariant: to store the lines that are left from here gives what is asked. Assumes nothing.
-use mathlib.Core.List.{◌++◌}
+use Rattle.std.proofs.lemmas.Iterator.{YieldsList-from_slice, YieldsList-from_take, YieldsList-from_zip}
+use Rattle.std.proofs.lemmas.Iterator.Consumers.{YieldsList-from_enumerate, YieldsList-turn, YieldsList-end}
+use Rattle.std.proofs.lemmas.List.{length_push}
 use Rattle.model.specs.Post.{post, postings}
-use Rattle.model.proofs.Storing.{rest-start, rest-turn, rest-room, rest_end}
-use Rattle.lines.specs.Text.{hit_line, hit_lines}
-use Rattle.lines.proofs.Printing.{hits_more, hits-none}
-use borrow.Author.Rules.{rules}
-use lib.ListN.{take, drop, get_or}
+use Rattle.model.proofs.Storing.{rest-turn, rest-room, rest_end}
+use Rattle.lines.specs.Text.{hit_line}
+use Rattle.lines.proofs.Printing.{hits-none, hits_given, given-length}
+use lib.ListN.{length}
 use Prim.Native.Nat.{◌+◌}
 use native.Mathlib.Omega.{arith}
-use mathlib.Core.Path.{◌≡◌}
 use Rattle.lines.proofs.rows.put_hits.Goals as goal
-
-pub loop-i-init : goal.loop-i-init
-loop-i-init c = (search rules, rest-start _ _ _)
 
 pub put_hit-j-requires : goal.put_hit-j-requires
 put_hit-j-requires c =
-    let next : let a = c.args in
-    let l = c.loop-i in
-    let hs = take a.n (postings a.docids.now a.scores.now) in
-    hit_lines (l.i + 1) (drop l.i hs) ≡ hit_line (l.i + 1) (post (get_or a.docids.now l.i 0) (get_or a.scores.now l.i 0)) ++ hit_lines (l.i + 1 + 1) (drop (l.i + 1) hs) = let a = c.args in
-    let l = c.loop-i in
-    hits_more (l.i + 1) a.n l.i a.docids.now a.scores.now (omega arith) (omega arith) c.loop-i-test.true in
     let a = c.args in
-    let i = c.loop-i.i in
-    rest-room (hit_line (i + 1) (post (get_or a.docids.now i 0) (get_or a.scores.now i 0))) _ (next) c.loop-i.invariant.1 c.requires.3
+    let ds = a.docids.now in
+    let ss = a.scores.now in
+    let x = c.in-Some in
+    let t = YieldsList-turn (YieldsList-from_enumerate (YieldsList-from_take a.n (YieldsList-from_zip (YieldsList-from_slice ds cc) (YieldsList-from_slice ss cc)) cc) cc) c.loop-i.yielded c.loop-i.i-iterator c.loop-i.yielded_by c.next.result c.next.new.self _ c.in-Some.is c.next.ensures.steps in
+    let next = hits_given a.n (length c.loop-i.yielded) ds ss (x.i, (x.docid.now, x.score.now)) (omega arith) (omega arith) t in
+    rest-room (hit_line (x.i + 1) (post x.docid.now x.score.now)) _ (next) c.loop-i.invariant c.requires.3
 
 pub loop-i-preserved : goal.loop-i-preserved
 loop-i-preserved c =
-    let next : let a = c.args in
-    let l = c.loop-i in
-    let hs = take a.n (postings a.docids.now a.scores.now) in
-    hit_lines (l.i + 1) (drop l.i hs) ≡ hit_line (l.i + 1) (post (get_or a.docids.now l.i 0) (get_or a.scores.now l.i 0)) ++ hit_lines (l.i + 1 + 1) (drop (l.i + 1) hs) = let a = c.args in
-    let l = c.loop-i in
-    hits_more (l.i + 1) a.n l.i a.docids.now a.scores.now (omega arith) (omega arith) c.loop-i-test.true in
-    (omega arith, rest-turn _ _ (next) c.loop-i.invariant.1 c.put_hit-j.ensures)
-
-pub shape_of-out : goal.shape_of-out
-shape_of-out c = c.loop-i.invariant.1.same
+    let a = c.args in
+    let ds = a.docids.now in
+    let ss = a.scores.now in
+    let x = c.in-Some in
+    let t = YieldsList-turn (YieldsList-from_enumerate (YieldsList-from_take a.n (YieldsList-from_zip (YieldsList-from_slice ds cc) (YieldsList-from_slice ss cc)) cc) cc) c.loop-i.yielded c.loop-i.i-iterator c.loop-i.yielded_by c.next.result c.next.new.self _ c.in-Some.is c.next.ensures.steps in
+    let next = hits_given a.n (length c.loop-i.yielded) ds ss (x.i, (x.docid.now, x.score.now)) (omega arith) (omega arith) t in
+    rw length_push (rest-turn _ _ (next) c.loop-i.invariant c.put_hit-j.ensures)
 
 pub returns : goal.returns
-returns c = let a = c.args in rest_end (hits-none (c.loop-i.i + 1) a.n c.loop-i.i (postings a.docids.now a.scores.now) c.loop-i-test.false) c.loop-i.invariant.1
+returns c =
+    let a = c.args in
+    let ds = a.docids.now in
+    let ss = a.scores.now in
+    let t = YieldsList-end (YieldsList-from_enumerate (YieldsList-from_take a.n (YieldsList-from_zip (YieldsList-from_slice ds cc) (YieldsList-from_slice ss cc)) cc) cc) c.loop-i.yielded c.loop-i.i-iterator c.loop-i.yielded_by c.next.result c.next.new.self c.in-None.is c.next.ensures.steps in
+    let k = length c.loop-i.yielded in
+    rest_end (hits-none (k + 1) a.n k (postings ds ss) (omega (arith, t.1, given-length a.n ds ss (omega arith) (omega arith)))) c.loop-i.invariant

@@ -2,12 +2,8 @@
 use Rattle.model.specs.Limits.{max_docid}
 use Rattle.model.proofs.Storing.{Rest}
 use Rattle.lines.specs.Text.{interval_lines}
-use lib.ListN.{length, drop}
-use Prim.Native.Nat.{◌-◌, ◌≤◌}
+use lib.ListN.{drop}
 use Rattle.lines.proofs.rows.put_intervals.Given as goal
 
 abbrev pub invariant-loop-i : goal.invariant-loop-i
-invariant-loop-i l = (l.i ≤ length l.firsts) × Rest l.initial.out l.out l.at l.j (interval_lines max_docid l.firsts l.ceilings l.marks) (interval_lines max_docid (drop l.i l.firsts) (drop l.i l.ceilings) (drop l.i l.marks))
-
-abbrev pub decreases-loop-i : goal.decreases-loop-i
-decreases-loop-i l = length l.firsts - l.i
+invariant-loop-i l = Rest l.initial.out l.out l.at l.j (interval_lines max_docid l.firsts l.ceilings l.marks) (interval_lines max_docid (drop l.i l.firsts) (drop l.i l.ceilings) (drop l.i l.marks))

@@ -42,8 +42,8 @@ loop-n-preserved c =
     passing_turn s l.at l.invariant c.in-Some.n f in
     turned
 
-pub returns-in-None : goal.returns-in-None
-returns-in-None c =
+pub returns : goal.returns
+returns c =
     let s = c.args.input.now in
     let l = c.loop-n in
     let f : query_field_at s l.at ≡ None = cc in

@@ -6,7 +6,7 @@ use Rattle.query.proofs.Parts.{Counting, counting_none, counting_start, counting
 use Rattle.query.proofs.fields.count_fields.Goals as goal
 
 pub returns-then-not-is_field : goal.returns-then-not-is_field
-returns-then-not-is_field c = sym (counting_none c.args.q.now (sym c.is_field.ensures ∙ c.if-not-is_field.true))
+returns-then-not-is_field c = rw (counting_none c.args.q.now (sym c.is_field.ensures ∙ c.if-not-is_field.true), c.at.ensures)
 
 pub loop-at-init : goal.loop-at-init
 loop-at-init c = counting_start c.args.q.now (sym c.is_field.ensures ∙ c.if-not-is_field.false)
@@ -14,8 +14,10 @@ loop-at-init c = counting_start c.args.q.now (sym c.is_field.ensures ∙ c.if-no
 pub returns-then-not-is_field-2 : goal.returns-then-not-is_field-2
 returns-then-not-is_field-2 c =
     let l = c.loop-at in
-    sym (counting_wrong c.args.q.now l.n l.at l.invariant c.loop-at-test.true
-    (sym c.is_field-in-loop-at.ensures ∙ c.if-not-is_field-2.true))
+    rw (
+      counting_wrong c.args.q.now l.n l.at l.invariant c.loop-at-test.true (sym c.is_field-in-loop-at.ensures ∙ c.if-not-is_field-2.true),
+      c.at-then-not-is_field-2.ensures,
+    )
 
 pub overflow_add-at : goal.overflow_add-at
 overflow_add-at c =
@@ -48,4 +50,4 @@ loop-at-preserved c =
 pub returns : goal.returns
 returns c =
     let l = c.loop-at in
-    sym (counting_end c.args.q.now l.n l.at l.invariant c.loop-at-test.false)
+    rw (counting_end c.args.q.now l.n l.at l.invariant c.loop-at-test.false)

