@@ -33,14 +33,7 @@ fn hit_at(kept: Kept, i: usize) -> Hit
 fn held(kept: Kept, room: usize) -> usize
     ensures { Counts kept room result }
 {
-    let mut n = kept.n;
-    if 100 < n {
-        n = 100;
-    }
-    if room < n {
-        n = room;
-    }
-    n
+    kept.n.min(100).min(room)
 }
 
 // The keeper's hits are written into the first rows, as many as there are rows; the rows past them are not touched.
@@ -48,10 +41,8 @@ pub fn fill<'a>(rows: &'a mut [Hit], kept: Kept)
     ensures { rows.new ≡ with_hits (take (length rows.old) (kept_of kept)) rows.old }
 {
     let n = held(kept, rows.len());
-    let mut i: usize = 0;
-    while i < n {
-        rows[i] = hit_at(kept, i);
-        i += 1;
+    for (i, row) in rows[..n].iter_mut().enumerate() {
+        *row = hit_at(kept, i);
     }
 }
 
