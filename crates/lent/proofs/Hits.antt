@@ -19,7 +19,7 @@ use Rattle.prune.proofs.Rooms.{Within}
 use Rattle.exhaustive.specs.Exhaustive.{paper_of}
 use Rattle.exhaustive.specs.declared.all.Verdict.{Verdict}
 use Rattle.exhaustive.specs.declared.all.Verdict.TheVariants.{Done, Refused}
-use Rattle.lent.specs.Rows.{with_hits, number_of, offset_of, hits_of, Rowed, hit_at, Counts, number_in, offset_in, Tells}
+use Rattle.lent.specs.Rows.{with_hits, number_of, offset_of, hits_of, Rowed, Counts, number_in, offset_in, Tells}
 use Rattle.lent.specs.declared.rows.Hit.{Hit}
 
 -- ---- rows with hits in front
@@ -29,6 +29,10 @@ with-front : (hs : List rank.Hit) (n : ℕ) (l : List Hit) → length hs ≡ n �
 with-front hs n l e h =
     let none : drop n (take n l) ≡ [] = drop_of_length-le (take n l) (omega (arith, length-take-le n l h)) in
     rw (e, none, append-nil)
+
+-- the hit at a place of the keeper
+abbrev pub hit_at : Kept → ℕ → Hit
+hit_at t i = record { docid = get_or t.docids i 0; score = get_or t.scores i 0 }
 
 -- one hit more
 turn : (ds ss : List ℕ) (i : ℕ) (l : List Hit) → i < length (postings ds ss) → i < length l →

@@ -5,7 +5,7 @@ ghost use Rattle.rank.specs.Keep.{kept_of};
 ghost use Rattle.exhaustive.specs.Exhaustive.{rank_all};
 ghost use Rattle.pruned.specs.Pruned.{searched};
 ghost use Rattle.lent.specs.Search.{Booked, Searched};
-ghost use Rattle.lent.specs.Rows.{hit_at, with_hits, Counts, number_in, offset_in, Tells, Rowed};
+ghost use Rattle.lent.specs.Rows.{with_hits, Counts, number_in, offset_in, Tells, Rowed};
 
 use exhaustive::all::Verdict;
 use rank::keep::Kept;
@@ -16,17 +16,6 @@ use rank::keep::Kept;
 pub struct Hit {
     pub docid: u32,
     pub score: u32,
-}
-
-// The hit at a place of the keeper.
-fn hit_at(kept: Kept, i: usize) -> Hit
-    requires { i < 100 }
-    ensures { result ≡ hit_at kept i }
-{
-    Hit {
-        docid: kept.docids[i],
-        score: kept.scores[i],
-    }
 }
 
 // How many of a keeper's hits there is room for. (A keeper's two runs end at 100.)
@@ -42,7 +31,10 @@ pub fn fill<'a>(rows: &'a mut [Hit], kept: Kept)
 {
     let n = held(kept, rows.len());
     for (i, row) in rows[..n].iter_mut().enumerate() {
-        *row = hit_at(kept, i);
+        *row = Hit {
+            docid: kept.docids[i],
+            score: kept.scores[i],
+        };
     }
 }
 

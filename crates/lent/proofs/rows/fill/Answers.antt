@@ -3,8 +3,8 @@ use native.Mathlib.Omega.{arith}
 use mathlib.Core.List.{◌++◌}
 use mathlib.Core.Path.{◌≡◌, ◌∙◌}
 use lib.ListN.{set, take, drop}
-use Rattle.lent.specs.Rows.{hit_at, with_hits}
-use Rattle.lent.proofs.Hits.{first_hits, one_more, all_written}
+use Rattle.lent.specs.Rows.{with_hits}
+use Rattle.lent.proofs.Hits.{hit_at, first_hits, one_more, all_written}
 use Rattle.lent.proofs.rows.fill.Goals as goal
 
 pub loop-i-preserved : goal.loop-i-preserved
@@ -13,7 +13,7 @@ loop-i-preserved c =
     let old = c.args.rows.now in
     let n = c.held-n.result in
     let i = c.loop-i.i in
-    let written : set c.loop-i.row-items i c.hit_at.result ≡ set (with_hits (first_hits t i) (take n old)) i (hit_at t i) = cc in
+    let written : set c.loop-i.row-items i (hit_at t i) ≡ set (with_hits (first_hits t i) (take n old)) i (hit_at t i) = cc in
     written ∙ one_more t old n c.held-n.ensures i c.loop-i-test.true
 
 pub returns : goal.returns
