@@ -28,7 +28,7 @@ fn note<'a>(
     requires { (n ≤ 8) × (length terms.now ≡ 8) × (length ats.old ≡ 8) × (length counts.old ≡ 8) }
     ensures { Notes terms.now n list ats.old counts.old ats.new counts.new }
 {
-    for (i, term) in terms[0..n].iter().enumerate() {
+    for (i, term) in terms[..n].iter().enumerate() {
         if *term == list.term {
             ats[i] = list.at;
             counts[i] = list.count;
