@@ -5,7 +5,7 @@ ghost use Rattle.rank.specs.Run.{none};
 ghost use Rattle.scan.specs.Heads.{InBuffers, OwnParts};
 ghost use Rattle.scan.specs.Run.{Idle, Ready, Ran, AllSkipped, Bounds, Searched};
 
-use crate::head::Head;
+use crate::head::{END, Head};
 use rank::keep::Kept;
 
 // After a run: the hits kept, and where the lists stand.
@@ -19,15 +19,10 @@ pub struct After {
 fn in_use(heads: [Head; 8]) -> usize
     ensures { (result ≤ 8) × Idle result heads }
 {
-    let mut n: usize = 8;
-    while 0 < n {
-        let h = heads[n - 1];
-        if h.doc < crate::head::END {
-            return n;
-        }
-        n -= 1;
+    match heads.iter().rposition(|h| h.doc < END) {
+        Some(i) => i + 1,
+        None => 0,
     }
-    0
 }
 
 // The documents up to the last docid: each is scored and handed to the keeper. Both passes over the heads stand here, so that no array of heads is handed on;
@@ -49,36 +44,24 @@ pub fn run(
     let mut sums = kept.scores;
     let mut n = kept.n;
     loop {
-        let mut d: u32 = crate::head::END;
-        let mut i: usize = 0;
-        while i < m {
-            let h = hs[i];
-            let e = h.doc;
-            if e < d {
-                d = e;
-            }
-            i += 1;
+        let mut d = END;
+        for h in &hs[..m] {
+            d = d.min(h.doc);
         }
         if last < d {
-            let all = Kept {
+            let kept = Kept {
                 docids: best,
                 scores: sums,
-                n: n,
+                n,
             };
-            return After {
-                kept: all,
-                heads: hs,
-            };
+            return After { kept, heads: hs };
         }
-        let mut s: u32 = 0;
-        let mut j: usize = 0;
-        while j < m {
-            let h = hs[j];
+        let mut s = 0;
+        for h in hs[..m].iter_mut() {
             if h.doc == d {
                 s += (h.weight as u32) * (h.score as u32);
-                hs[j] = h.next(docs, scores);
+                *h = h.next(docs, scores);
             }
-            j += 1;
         }
         n = rank::keep::offer_in(&mut best, &mut sums, n, k, d, s);
     }
@@ -95,11 +78,8 @@ pub(crate) fn skip_all(
     ensures { AllSkipped docs.now scores.now first heads result }
 {
     let mut hs = heads;
-    let mut i: usize = 0;
-    while i < 8 {
-        let h = hs[i];
-        hs[i] = h.skipped(docs, scores, first);
-        i += 1;
+    for h in hs.iter_mut() {
+        *h = h.skipped(docs, scores, first);
     }
     hs
 }
