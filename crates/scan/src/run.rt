@@ -1,5 +1,5 @@
 // Document-at-a-time scoring with one accumulator, over up to eight lists, up to an interval's last docid.
-ghost use Rattle.std.specs.Prelude.{◌≤◌};
+ghost use Rattle.std.specs.Prelude.{◌≤◌, ◌≡◌, length};
 ghost use Rattle.model.specs.Runs.{All};
 ghost use Rattle.rank.specs.Run.{none};
 ghost use Rattle.scan.specs.Heads.{InBuffers, OwnParts};
@@ -16,8 +16,9 @@ pub struct After {
 }
 
 // How many heads there are up to the last one that stands at a posting.
-fn in_use(heads: [Head; 8]) -> usize
-    ensures { (result ≤ 8) × Idle result heads }
+fn in_use(heads: &[Head; 8]) -> usize
+    requires { length heads.now ≡ 8 }
+    ensures { (result ≤ 8) × Idle result heads.now }
 {
     match heads.iter().rposition(|h| h.doc < END) {
         Some(i) => i + 1,
@@ -38,7 +39,7 @@ pub fn run(
     requires { Ready docs.now scores.now heads last k kept }
     ensures { Ran docs.now scores.now heads last k kept result }
 {
-    let m = in_use(heads);
+    let m = in_use(&heads);
     let mut hs = heads;
     let mut best = kept.docids;
     let mut sums = kept.scores;

@@ -4,7 +4,7 @@ use Rattle.scan.proofs.Heads.{idle-each}
 use Rattle.scan.proofs.run.in_use.Goals as goal
 
 pub returns-in-Some : goal.returns-in-Some
-returns-in-Some c = (search rules, idle-each c.args.heads _ (λ k l m. search rules))
+returns-in-Some c = (search rules, idle-each c.args.heads.now _ (λ k l m. search rules))
 
 pub returns-in-None : goal.returns-in-None
-returns-in-None c = (search rules, idle-each c.args.heads 0 (λ k l m. search rules))
+returns-in-None c = (search rules, idle-each c.args.heads.now 0 (λ k l m. search rules))
