@@ -22,9 +22,6 @@ pub least-top : (hs : List Head) → least hs ≤ none
 least-top [] = omega arith
 least-top (h ∷ hs) = omega (arith, min-le_right h.doc (least hs), least-top hs)
 
-pub least-turn : (hs : List Head) (i m n : ℕ) → i < length hs → n ≡ min m (get_or hs i blank).doc → min m (least (drop i hs)) ≡ min n (least (drop (i + 1) hs))
-least-turn hs i m n l e = rw (e, add-one i, drop-cons hs i blank l) (omega arith)
-
 -- Heads at their lists' ends
 pub idle-each : (hs : List Head) (n : ℕ) → ((k : ℕ) → n ≤ k → k < length hs → none ≤ (get_or hs k blank).doc) → Idle n hs
 idle-each [] zero f = tt
