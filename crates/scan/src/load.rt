@@ -28,7 +28,7 @@ pub fn load(
         let head = Head {
             doc: docs[at],
             score: scores[at],
-            weight: weight,
+            weight,
             at: at + 1,
             end: at + (m.count as usize),
         };
