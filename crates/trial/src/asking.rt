@@ -58,7 +58,7 @@ impl Question {
     }
 
     // A query for 1 to 100 hits of 1 to 8 terms.
-    pub(crate) fn any(chance: &mut Chance) -> Question {
+    pub(crate) fn by_chance(chance: &mut Chance) -> Question {
         let k = hits(chance);
         let n = 1 + chance.draw(8);
         Question::of_terms(chance, k, n)

@@ -12,7 +12,7 @@ pub(crate) fn compare(table: &Table, question: &Question, shelf: &[u8], tally: &
     let sums = Sums::of(table, &question.weights);
     let hits = sums.rank(question.k);
     let all = rank_all(question.as_slice(), shelf);
-    tally.expect(all.is_ok_and(|kept| hits.are(&kept)));
+    tally.expect(all.is_ok_and(|kept| hits.are_kept(&kept)));
     compare_pruned(question, shelf, &sums, &hits, tally);
     tally.queries.add(1);
     tally.hits.add(hits.len());
@@ -20,6 +20,6 @@ pub(crate) fn compare(table: &Table, question: &Question, shelf: &[u8], tally: &
 
 // A query by chance.
 pub(crate) fn compare_any(table: &Table, shelf: &[u8], chance: &mut Chance, tally: &mut Tally) {
-    let question = Question::any(chance);
+    let question = Question::by_chance(chance);
     compare(table, &question, shelf, tally);
 }

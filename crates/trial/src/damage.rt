@@ -33,7 +33,7 @@ fn follows_checker(all: &Result<Kept, Refusal>, shelf: &[u8], tally: &mut Tally)
 
 // A query by chance to a shelf that may be damaged.
 fn judge(shelf: &[u8], chance: &mut Chance, tally: &mut Tally) {
-    let question = Question::any(chance);
+    let question = Question::by_chance(chance);
     tally.damaged.add(1);
     let all = rank_all(question.as_slice(), shelf);
     let right = follows_checker(&all, shelf, tally);
@@ -138,7 +138,7 @@ fn cut_short(shelf: &[u8], chance: &mut Chance, tally: &mut Tally)
     judge(&shelf[..at], chance, tally);
 }
 
-pub(crate) fn damage(shelf: &mut [u8], times: usize, chance: &mut Chance, tally: &mut Tally) {
+pub(crate) fn damage_often(shelf: &mut [u8], times: usize, chance: &mut Chance, tally: &mut Tally) {
     if shelf.is_empty() {
         return;
     }

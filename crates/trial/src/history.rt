@@ -12,7 +12,7 @@ use crate::writing::one_writing;
 // What stands in the output before an edit.
 const BLANK: u8 = 0xa5;
 
-#[derive(Clone, Copy, PartialEq, Eq)]
+#[derive(Clone, Copy)]
 enum Kind {
     Set { score: u16 },
     Clear,
@@ -74,12 +74,12 @@ fn term(chance: &mut Chance) -> usize
 
 // "12" where there is nothing to act on
 fn missing(found: bool) -> Option<u8> {
-    if found { None } else { Some(12) }
+    (!found).then_some(12)
 }
 
 impl Edit {
     // The high terms are set on three sheets only, so that their lists are emptied and made anew.
-    fn any(chance: &mut Chance, sets: usize) -> Edit {
+    fn by_chance(chance: &mut Chance, sets: usize) -> Edit {
         let step = chance.draw(36);
         let term = term(chance);
         let any = chance.draw(SHEETS);
@@ -104,7 +104,7 @@ impl Edit {
         match self.kind {
             Kind::Convert => missing(table.is_listed(self.term)),
             _ if out_of_range => Some(10),
-            Kind::Set { score } => if score == 0 { Some(10) } else { None },
+            Kind::Set { score } => (score == 0).then_some(10),
             Kind::Clear => missing(table.score(self.term, self.sheet) != 0),
             Kind::Withdraw => missing(table.is_held(self.sheet)),
         }
@@ -185,7 +185,7 @@ impl Bench {
     // Edits and conversions, `sets` of 36 being sets, each followed by a query.
     pub(crate) fn edit_often(&mut self, edits: usize, sets: usize) {
         for _ in 0..edits {
-            let edit = Edit::any(&mut self.chance, sets);
+            let edit = Edit::by_chance(&mut self.chance, sets);
             self.step(&edit);
             compare_any(
                 &self.table,

@@ -182,7 +182,7 @@ impl Bench {
 fn only_hit(shelf: &[u8], docid: u32, score: u32) -> bool {
     let hits = Hits::one(docid, score);
     let question = Question::of_one(100, TERM);
-    rank_all(question.as_slice(), shelf).is_ok_and(|kept| hits.are(&kept))
+    rank_all(question.as_slice(), shelf).is_ok_and(|kept| hits.are_kept(&kept))
 }
 
 // Whether an empty shelf takes a docid, and has it then as its only hit.

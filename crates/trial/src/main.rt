@@ -26,7 +26,7 @@ impl Bench {
     fn stage(&mut self, edits: usize, sets: usize) {
         self.edit_often(edits, sets);
         self.cut_often(20, 20);
-        damage::damage(
+        damage::damage_often(
             self.shelf.as_mut_slice(),
             200,
             &mut self.chance,

@@ -3,7 +3,7 @@ use crate::answers::check;
 use crate::bench::Bench;
 use crate::bytes::Bytes;
 use crate::comparing::compare_any;
-use crate::damage::damage;
+use crate::damage::damage_often;
 use crate::limits::is_turned;
 use crate::table::{TERMS, term_number};
 use crate::writing::cut;
@@ -35,7 +35,7 @@ impl Bench {
         for _ in 0..times {
             compare_any(&self.table, shelf, &mut self.chance, &mut self.tally);
         }
-        damage(shelf, times, &mut self.chance, &mut self.tally);
+        damage_often(shelf, times, &mut self.chance, &mut self.tally);
     }
 
     pub(crate) fn cut_often(&mut self, cuts: usize, times: usize) {

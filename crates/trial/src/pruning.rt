@@ -67,7 +67,7 @@ pub(crate) fn compare_pruned(
         return;
     };
     let n = pruned.intervals;
-    tally.expect(n != 0 && hits.are(&pruned.kept));
+    tally.expect(n != 0 && hits.are_kept(&pruned.kept));
     tally.expect(book.is_marked(n, sums, question.k));
     tally.expect(book.has_opened(n, hits));
     tally.intervals.add(n);

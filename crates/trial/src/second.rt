@@ -3,6 +3,7 @@ ghost use Rattle.std.specs.Prelude.{◌≤◌};
 
 use crate::table::{ASKED, SHEETS, Table, docid_of};
 use rank::keep::Kept;
+use std::array;
 
 // The hits, at most 100, in order.
 #[derive(Drop)]
@@ -51,7 +52,7 @@ impl Hits {
     }
 
     // Whether a ranker kept these hits.
-    pub(crate) fn are(&self, kept: &Kept) -> bool {
+    pub(crate) fn are_kept(&self, kept: &Kept) -> bool {
         kept.n == self.len
             && kept.docids.starts_with(self.docids())
             && kept.scores.starts_with(self.scores())
@@ -66,11 +67,9 @@ pub(crate) struct Sums {
 
 impl Sums {
     pub(crate) fn of(table: &Table, weights: &[u8; ASKED]) -> Sums {
-        let mut sums = [0; SHEETS];
-        for sheet in 0..SHEETS {
-            sums[sheet] = table.weigh(weights, sheet);
+        Sums {
+            sums: array::from_fn(|sheet| table.weigh(weights, sheet)),
         }
-        Sums { sums }
     }
 
     // The best of the sums, struck out: "higher score, then lower docid".
