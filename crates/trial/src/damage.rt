@@ -8,18 +8,8 @@ use crate::pruning::{agree, search_only};
 use crate::tally::Tally;
 use rank::keep::Kept;
 
-// Whether the exhaustive ranker may answer as it does where the checker finds a fault: 6 and 7 it finds too; of the wrong bodies those of its lists.
-fn may_answer(all: &Result<Kept, Refusal>, fault: Refusal) -> bool {
-    match all {
-        Ok(_) => fault.number == 8,
-        Err(refusal) => {
-            refusal.number == fault.number
-                && (refusal.at == fault.at || fault.number == 8 && fault.at < refusal.at)
-        }
-    }
-}
-
-// Whether the exhaustive ranker answers by what the checker finds; a fault is counted, and the converter must name it too.
+// Whether the exhaustive ranker answers by what the checker finds: 6 and 7 it finds too, of the wrong bodies those of its lists. A fault is counted,
+// and the converter must name it too.
 fn follows_checker(all: &Result<Kept, Refusal>, shelf: &[u8], tally: &mut Tally) -> bool {
     let Err(fault) = check(shelf) else {
         return all.is_ok();
@@ -28,7 +18,7 @@ fn follows_checker(all: &Result<Kept, Refusal>, shelf: &[u8], tally: &mut Tally)
     let answer = convert::convert::convert(shelf, 0, &mut out);
     tally.faults.add(1);
     tally.expect(is_refused(answer, fault.number, fault.at));
-    may_answer(all, fault)
+    fault.allows(all)
 }
 
 // A query by chance to a shelf that may be damaged.

@@ -134,8 +134,9 @@ fn list_taken(run: Run, size: Size, list: &mut Bytes<ROOM>, tally: &mut Tally) {
 
 impl Bench {
     // A list of the first n postings.
-    fn first_taken(&mut self, n: u16, size: Size) {
+    fn first_taken(&mut self, n: u16, bytes: usize, blocks: u8) {
         let postings = every_third(n);
+        let size = Size { bytes, blocks };
         list_taken(postings.as_run(), size, &mut self.fresh, &mut self.tally);
     }
 
@@ -151,27 +152,9 @@ impl Bench {
 
     // "100 and 101 postings (one block, two); 6,400 and 6,401", each as a strip too, which takes as many bytes.
     fn lists(&mut self) {
-        self.first_taken(
-            100,
-            Size {
-                bytes: 322,
-                blocks: 1,
-            },
-        );
-        self.first_taken(
-            101,
-            Size {
-                bytes: 339,
-                blocks: 2,
-            },
-        );
-        self.first_taken(
-            6400,
-            Size {
-                bytes: 20104,
-                blocks: 64,
-            },
-        );
+        self.first_taken(100, 322, 1);
+        self.first_taken(101, 339, 2);
+        self.first_taken(6400, 20104, 64);
         self.one_too_many();
     }
 }

@@ -1,5 +1,5 @@
 // The pruned ranker: its hits, its book, and what it says where the exhaustive one refuses.
-use crate::answers::{Refusal, search};
+use crate::answers::{Refusal, rows, search};
 use crate::asking::Question;
 use crate::second::{Hits, Sums};
 use crate::tally::Tally;
@@ -81,30 +81,11 @@ pub(crate) fn search_only(query: &[u8], shelf: &[u8]) -> Result<Pruned, Refusal>
     search(query, shelf, &mut book)
 }
 
-// Whether two rankers kept the same hits.
-fn same_hits(ours: &Kept, theirs: &Kept) -> bool {
-    let n = ours.n;
-    if n != theirs.n {
-        return false;
-    }
-    match (ours.docids.get(..n), ours.scores.get(..n)) {
-        (Some(docids), Some(scores)) => {
-            theirs.docids.starts_with(docids) && theirs.scores.starts_with(scores)
-        }
-        _ => false,
-    }
-}
-
-// Whether the two rankers' answers agree, on a shelf that may be wrong. Where the exhaustive one refuses a wrong body at a place,
-// the pruned one may not meet that body, and then meet none or a later one.
+// Whether the two rankers' answers agree, on a shelf that may be wrong.
 pub(crate) fn agree(all: &Result<Kept, Refusal>, pruned: &Result<Pruned, Refusal>) -> bool {
     match (all, pruned) {
-        (Ok(ours), Ok(theirs)) => same_hits(ours, &theirs.kept),
+        (Ok(ours), Ok(theirs)) => rows(ours) == rows(&theirs.kept),
         (Ok(_), Err(_)) => false,
-        (Err(ours), Ok(_)) => ours.number == 8,
-        (Err(ours), Err(theirs)) => {
-            ours.number == theirs.number
-                && (ours.at == theirs.at || ours.number == 8 && ours.at < theirs.at)
-        }
+        (Err(refusal), _) => refusal.allows(pruned),
     }
 }

@@ -1,24 +1,26 @@
 // A second ranker, over the table alone: every sheet's score is added up, and the best is taken k times. It also says which intervals are opened.
 ghost use Rattle.std.specs.Prelude.{◌≤◌};
+ghost use Rattle.trial.specs.declared.answers.TheConstants.{ROWS};
 
+use crate::answers::{ROWS, rows};
 use crate::table::{ASKED, SHEETS, Table, docid_of};
 use rank::keep::Kept;
 use std::array;
 
-// The hits, at most 100, in order.
+// The hits, in order.
 #[derive(Drop)]
 pub(crate) struct Hits {
-    docids: [u32; 100],
-    scores: [u32; 100],
+    docids: [u32; ROWS],
+    scores: [u32; ROWS],
     len: usize,
-    ghost within: { len ≤ 100 },
+    ghost within: { len ≤ ROWS },
 }
 
 impl Hits {
     fn new() -> Hits {
         Hits {
-            docids: [0; 100],
-            scores: [0; 100],
+            docids: [0; ROWS],
+            scores: [0; ROWS],
             len: 0,
         }
     }
@@ -32,7 +34,7 @@ impl Hits {
 
     fn push(&mut self, docid: u32, score: u32) {
         let at = self.len;
-        if at < 100 {
+        if at < ROWS {
             self.docids[at] = docid;
             self.scores[at] = score;
             self.len = at + 1;
@@ -53,9 +55,7 @@ impl Hits {
 
     // Whether a ranker kept these hits.
     pub(crate) fn are_kept(&self, kept: &Kept) -> bool {
-        kept.n == self.len
-            && kept.docids.starts_with(self.docids())
-            && kept.scores.starts_with(self.scores())
+        rows(kept) == (self.docids(), self.scores())
     }
 }
 

@@ -110,7 +110,7 @@ impl Table {
         sum
     }
 
-    pub(crate) fn postings(&self, term: usize) -> Postings<256>
+    pub(crate) fn postings(&self, term: usize) -> Postings<SHEETS>
         requires { term < TERMS }
     {
         let mut postings = Postings::new();
