@@ -34,7 +34,7 @@ impl<const N: usize> Bytes<N> {
         self.len = 0;
     }
 
-    // Puts bytes behind those that are held. Where there is no room for them nothing is put, and what is then made of the bytes counts as a difference.
+    // Puts bytes behind those that are held. Where there is no room nothing is put, and what is then made of the bytes counts as a difference.
     pub(crate) fn push(&mut self, bytes: &[u8]) {
         let at = self.len;
         if bytes.len() <= N - at {

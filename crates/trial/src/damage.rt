@@ -89,18 +89,20 @@ fn right_flip(shelf: &[u8], at: usize) -> bool
     let next = at.saturating_add(field_len(&shelf[at..]));
     let later = 2 < shelf[field_of(shelf, at - 1)];
     let more = shelf.get(next).is_some_and(|tag| 2 < *tag);
-    let found = check(shelf);
-    if later {
-        return found == Err(Refusal { number: 6, at });
+    let due = if later {
+        Refusal { number: 6, at }
+    } else if more {
+        Refusal {
+            number: 6,
+            at: next,
+        }
+    } else {
+        Refusal { number: 8, at }
+    };
+    match check(shelf) {
+        Ok(()) => !later && !more,
+        Err(fault) => fault == due,
     }
-    if more {
-        return found
-            == Err(Refusal {
-                number: 6,
-                at: next,
-            });
-    }
-    found.is_ok() || found == Err(Refusal { number: 8, at })
 }
 
 // A body's tag changed alone, 03 to 04 or back, and then put back.
