@@ -1,12 +1,12 @@
 -- The block that a docid meets, by its number: how the search finds it, whose body it is, and when it is a new one. Assumes nothing.
-use Prim.Native.Nat.{ℕ, zero, suc, ◌+◌, ◌-◌, ◌≤◌, ◌<◌}
+use Prim.Native.Nat.{ℕ, zero, suc, ◌+◌, ◌≤◌, ◌<◌}
 use mathlib.Core.Path.{◌≡◌, refl, sym, ◌∙◌}
 use mathlib.Core.Bool.{cond, ◌&&◌}
 use mathlib.Core.List.{List}
 use native.Mathlib.Omega.{arith}
 use lib.Dec.{ltb, leb, eqb}
-use lib.ListN.{length, get_or, set, take, drop, length-set, length-take, length-drop}
-use lib.Seq.{get_or-set_same, get_or-set_other, get_or-take, get_or-drop}
+use lib.ListN.{length, get_or, set, length-set}
+use lib.Seq.{get_or-set_same, get_or-set_other}
 use borrow.Author.Tests.{lt-leb, le-leb, ltb-true, ltb-false, lt-ltb, le-ltb, eqb-true, eqb-false, eq-eqb, ne_eqb}
 use Rattle.model.proofs.Lists.{split, and-false}
 use Rattle.prune.specs.Cut.{Block, meets, Rises}
@@ -17,7 +17,7 @@ use Rattle.opening.specs.Table.{numbered, gap}
 use Rattle.model.specs.Limits.{max_terms}
 use Rattle.opening.specs.Meet.{met_from, Reaches, met_at, Moved, AllMoved}
 use Rattle.opening.specs.Enter.{body_of, is_new}
-use Rattle.opening.proofs.Numbers.{numbered-length}
+use Rattle.opening.proofs.Numbers.{numbered-length, First}
 
 -- ---- the blocks by their numbers
 
@@ -91,37 +91,9 @@ module _ (B : ℕ → Block) where
 
 -- ---- the loop that moves the lists on
 
--- the first of the blocks from `from` up to `end` that does not end below d, as it is found among them
-pub reaches_found : (his : List ℕ) (from end d n : ℕ) → n < length (take (end - from) (drop from his)) → ((z : ℕ) → d ≤ get_or (take (end - from) (drop from his)) n z)
-    → ((k z : ℕ) → 0 ≤ k → k < n → get_or (take (end - from) (drop from his)) k z < d) → Reaches his from end d (from + n)
-reaches_found his from end d n l e h =
-    let w : n < end - from = omega (arith, length-take (end - from) (drop from his)) in
-    record {
-      on = omega arith;
-      upto = omega arith;
-      below = λ i a b.
-          let k = i - from in
-          let q : from + k ≡ i = omega arith in
-          let m : k < end - from = omega arith in
-          rw q at (rw (get_or-take (end - from) (drop from his) k 0 m, get_or-drop from his k 0) at (h k 0 (omega arith) (omega arith)));
-      ends = λ _. rw (get_or-take (end - from) (drop from his) n 0 w, get_or-drop from his n 0) at (e 0);
-    }
-
--- none of them
-pub reaches_end : (his : List ℕ) (from end d : ℕ) → from ≤ end → end ≤ length his
-    → ((k z : ℕ) → 0 ≤ k → k < length (take (end - from) (drop from his)) → get_or (take (end - from) (drop from his)) k z < d) → Reaches his from end d end
-reaches_end his from end d a b h =
-    let w : length (take (end - from) (drop from his)) ≡ end - from = omega (arith, length-take (end - from) (drop from his), length-drop from his) in
-    record {
-      on = a;
-      upto = omega arith;
-      below = λ i x y.
-          let k = i - from in
-          let q : from + k ≡ i = omega arith in
-          let m : k < end - from = omega arith in
-          rw q at (rw (get_or-take (end - from) (drop from his) k 0 m, get_or-drop from his k 0) at (h k 0 (omega arith) (omega arith)));
-      ends = λ l. absurd (omega arith);
-    }
+-- the first of the blocks from `from` up to `end` that does not end below d
+pub reaches_first : (his : List ℕ) (from end d r : ℕ) → First (λ x. x < d) (λ x. d ≤ x) his from end r → Reaches his from end d r
+reaches_first his from end d r f = record { on = f.on; upto = f.upto; below = f.before; ends = f.found }
 
 pub record Moving (los his ends ats₀ mets₀ ats mets : List ℕ) (d t : ℕ) : Type 0 where
   pub within : t ≤ max_terms
