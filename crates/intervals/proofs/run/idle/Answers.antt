@@ -14,7 +14,7 @@ pub bounds-heads-t : goal.bounds-heads-t
 bounds-heads-t c = omega (arith, c.loop-t.invariant.long)
 
 pub loop-t-preserved : goal.loop-t-preserved
-loop-t-preserved c = idles_more _ _ _ _ (omega arith) c.ended-h.ensures c.loop-t.invariant
+loop-t-preserved c = idles_more _ _ _ _ (omega arith) c.ended.ensures c.loop-t.invariant
 
 pub returns : goal.returns
 returns c = idles_done _ _ _ (omega arith) c.loop-t.invariant

@@ -1,10 +1,6 @@
 -- `idle` meets its contract. Assumes nothing.
-use Prim.Native.Nat.{◌-◌}
 use Rattle.intervals.specs.Run.{Idles}
 use Rattle.intervals.proofs.run.idle.Given as goal
 
 abbrev pub invariant-loop-t : goal.invariant-loop-t
 invariant-loop-t l = Idles l.weights l.heads l.t
-
-abbrev pub decreases-loop-t : goal.decreases-loop-t
-decreases-loop-t l = 8 - l.t
