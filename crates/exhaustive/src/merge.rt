@@ -37,21 +37,19 @@ fn open_all(ats: [usize; 8], counts: [u8; 8], weights: [u8; 8]) -> Opened
     };
     let mut hs = [ended; 8];
     let mut ls = [nothing; 8];
-    let mut t: usize = 0;
-    while t < 8 {
+    for t in 0..8 {
         let at = 100 * t;
         hs[t] = Head {
             doc: scan::head::END,
             score: 0,
             weight: weights[t],
-            at: at,
+            at,
             end: at,
         };
         ls[t] = Left {
             blocks: crate::fill::reading_at(ats[t], counts[t]),
             top: 0,
         };
-        t += 1;
     }
     Opened {
         heads: hs,
@@ -83,20 +81,14 @@ pub(crate) fn merge(
         if filled.right {
             let last = crate::fill::horizon(hs, ls);
             if last == scan::head::END {
-                return Merged {
-                    right: true,
-                    kept: kept,
-                };
+                return Merged { right: true, kept };
             }
             let after = scan::run::run(&docs, &scores, hs, last, k, kept);
             heads = after.heads;
             lefts = ls;
             kept = after.kept;
         } else {
-            return Merged {
-                right: false,
-                kept: kept,
-            };
+            return Merged { right: false, kept };
         }
     }
 }

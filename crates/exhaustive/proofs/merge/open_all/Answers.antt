@@ -28,7 +28,7 @@ loop-t-preserved c =
     let a : length c.args.ats ≡ 8 = c.well_formed.0.1.0.1 in
     let b : length c.args.counts ≡ 8 = c.well_formed.1.0.1.0.1 in
     let w : length c.args.weights ≡ 8 = c.well_formed.1.1.0.1.0.1 in
-    let l : t < 8 = c.loop-t-test.true in
+    let l : t < 8 = omega arith in
     let zero : 0 + t ≡ t = omega arith in
     let head : start_head t (get_or c.args.weights t 0) ≡ get_or (start_heads 0 c.args.weights) t blank = rw zero at (heads-at 0 t c.args.weights (omega arith)) in
     let left : record { blocks = c.reading_at-in-loop-t.result; top = 0 } ≡ get_or (start_lefts c.args.ats c.args.counts) t no_left =
@@ -46,6 +46,6 @@ returns c =
     let b : length c.args.counts ≡ 8 = c.well_formed.1.0.1.0.1 in
     let w : length c.args.weights ≡ 8 = c.well_formed.1.1.0.1.0.1 in
     record {
-      heads = front-done blank c.loop-t.hs (start_heads 0 c.args.weights) 8 c.loop-t.t c.loop-t.invariant.1 (heads-long 0 c.args.weights ∙ w) c.loop-t-test.false c.loop-t.invariant.3;
-      lefts = front-done no_left c.loop-t.ls (start_lefts c.args.ats c.args.counts) 8 c.loop-t.t c.loop-t.invariant.2 (lefts-long c.args.ats c.args.counts (a ∙ sym b) ∙ a) c.loop-t-test.false c.loop-t.invariant.4;
+      heads = front-done blank c.loop-t.hs (start_heads 0 c.args.weights) 8 c.loop-t.t c.loop-t.invariant.1 (heads-long 0 c.args.weights ∙ w) (omega arith) c.loop-t.invariant.3;
+      lefts = front-done no_left c.loop-t.ls (start_lefts c.args.ats c.args.counts) 8 c.loop-t.t c.loop-t.invariant.2 (lefts-long c.args.ats c.args.counts (a ∙ sym b) ∙ a) (omega arith) c.loop-t.invariant.4;
     }
