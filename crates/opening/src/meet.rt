@@ -21,13 +21,7 @@ fn met(los: &[u32], j: usize, end: usize, d: u32) -> usize
     requires { end ≤ length los.now }
     ensures { result ≡ met_at los.now end d j }
 {
-    if end <= j {
-        return GAP;
-    }
-    if los[j] <= d {
-        return j;
-    }
-    GAP
+    if j < end && los[j] <= d { j } else { GAP }
 }
 
 // All lists' places moved on to an interval's first docid, and the blocks that it meets.
