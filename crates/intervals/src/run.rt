@@ -8,6 +8,7 @@ ghost use Rattle.intervals.specs.Run.{last_at, Begins, Idles, Runnable, Runs};
 use opening::turn::Turn;
 use rank::keep::Kept;
 use scan::head::Head;
+use std::array;
 
 // What the search found: the hits kept, how many blocks were opened, and the least offset of a wrong body's tag where it stopped;
 // the shelf's length where it did not stop.
@@ -32,12 +33,7 @@ fn idle(weights: &[u8]) -> [Head; 8]
     requires { length weights.now ≡ 8 }
     ensures { Idles weights.now result 8 }
 {
-    let none = opening::enter::ended(0, 0);
-    let mut heads = [none; 8];
-    for (t, &weight) in weights.iter().enumerate() {
-        heads[t] = opening::enter::ended(weight, t);
-    }
-    heads
+    array::from_fn(|t| opening::enter::ended(weights[t], t))
 }
 
 // The last docid of an interval.
