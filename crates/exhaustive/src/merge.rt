@@ -1,7 +1,7 @@
 // The documents of a query's lists, merged out of their blocks: each block's body is read once, when its list needs it.
 ghost use Rattle.exhaustive.specs.Merge.{Addressed, Opens, Mergeable, Merges};
 
-use crate::fill::Left;
+use crate::fill::{Filled, Left};
 use rank::keep::Kept;
 use scan::head::Head;
 use std::array;
@@ -60,25 +60,27 @@ pub(crate) fn merge(
 {
     let mut docs = [0u32; 800];
     let mut scores = [0u16; 800];
-    let opened = open_all(ats, counts, weights);
-    let mut heads = opened.heads;
-    let mut lefts = opened.lefts;
+    let Opened {
+        mut heads,
+        mut lefts,
+    } = open_all(ats, counts, weights);
     let mut kept = Kept::new();
     loop {
-        let filled = crate::fill::fill(shelf, heads, lefts, &mut docs, &mut scores);
-        let hs = filled.heads;
-        let ls = filled.lefts;
-        if filled.right {
-            let last = crate::fill::horizon(hs, ls);
-            if last == scan::head::END {
-                return Merged { right: true, kept };
-            }
-            let after = scan::run::run(&docs, &scores, hs, last, k, kept);
-            heads = after.heads;
-            lefts = ls;
-            kept = after.kept;
-        } else {
+        let Filled {
+            right,
+            heads: hs,
+            lefts: ls,
+        } = crate::fill::fill(shelf, heads, lefts, &mut docs, &mut scores);
+        if !right {
             return Merged { right: false, kept };
         }
+        let last = crate::fill::horizon(hs, ls);
+        if last == scan::head::END {
+            return Merged { right: true, kept };
+        }
+        let after = scan::run::run(&docs, &scores, hs, last, k, kept);
+        heads = after.heads;
+        lefts = ls;
+        kept = after.kept;
     }
 }
