@@ -33,7 +33,7 @@ pub(crate) fn reading_at(at: usize, count: u8) -> Reading
     }
     let sum = at + 8;
     Reading {
-        sum: sum,
+        sum,
         body: sum + 12 * (count as usize),
         left: count,
     }
@@ -93,8 +93,7 @@ pub(crate) fn fill(
 {
     let mut hs = heads;
     let mut ls = lefts;
-    let mut t: usize = 0;
-    while t < 8 {
+    for t in 0..8 {
         let head = hs[t];
         let left = ls[t];
         match refill(shelf, head, left, t, docs, scores) {
@@ -110,7 +109,6 @@ pub(crate) fn fill(
                 };
             }
         }
-        t += 1;
     }
     Filled {
         right: true,
@@ -124,9 +122,7 @@ fn nearer_of(head: Head, left: Left, last: u32) -> u32
     ensures { result ≡ nearer head left last }
 {
     if head.doc < scan::head::END {
-        if left.top < last {
-            return left.top;
-        }
+        return last.min(left.top);
     }
     last
 }
@@ -136,12 +132,8 @@ pub(crate) fn horizon(heads: [Head; 8], lefts: [Left; 8]) -> u32
     ensures { result ≡ horizon_of heads lefts }
 {
     let mut last = scan::head::END;
-    let mut i: usize = 0;
-    while i < 8 {
-        let h = heads[i];
-        let l = lefts[i];
-        last = nearer_of(h, l, last);
-        i += 1;
+    for (&head, &left) in heads.iter().zip(&lefts) {
+        last = nearer_of(head, left, last);
     }
     last
 }

@@ -66,11 +66,9 @@ pub(crate) fn first_wrong(shelf: &[u8], ats: [usize; 8], counts: [u8; 8]) -> Wro
     ensures { wrong_of result ≡ fault_left shelf.now (start_lefts ats counts) }
 {
     let mut w = WrongBody::Nowhere;
-    let mut t: usize = 0;
-    while t < 8 {
-        let blocks = crate::fill::reading_at(ats[t], counts[t]);
+    for (&at, &count) in ats.iter().zip(&counts) {
+        let blocks = crate::fill::reading_at(at, count);
         w = wrong_in(shelf, blocks, w);
-        t += 1;
     }
     w
 }

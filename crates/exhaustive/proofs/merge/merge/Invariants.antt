@@ -6,8 +6,8 @@ use Rattle.exhaustive.specs.Merge.{wholes, fault_left}
 use Rattle.exhaustive.proofs.Merges.{Merging}
 use Rattle.exhaustive.proofs.merge.merge.Given as goal
 
-abbrev pub invariant-loop-last : goal.invariant-loop-last
-invariant-loop-last l = Merging l.shelf l.k (wholes l.shelf (terms l.initial.docs l.initial.scores l.initial.heads) l.initial.lefts) (fault_left l.shelf l.initial.lefts) l.docs l.scores l.heads l.lefts l.kept
+abbrev pub invariant-loop-docs : goal.invariant-loop-docs
+invariant-loop-docs l = Merging l.shelf l.k (wholes l.shelf (terms l.initial.docs l.initial.scores l.initial.heads) l.initial.lefts) (fault_left l.shelf l.initial.lefts) l.docs l.scores l.heads l.lefts l.kept
 
-abbrev pub decreases-loop-last : goal.decreases-loop-last
-decreases-loop-last l = size (wholes l.shelf (terms l.docs l.scores l.heads) l.lefts)
+abbrev pub decreases-loop-docs : goal.decreases-loop-docs
+decreases-loop-docs l = size (wholes l.shelf (terms l.docs l.scores l.heads) l.lefts)
