@@ -1,27 +1,14 @@
 // The documents of a query's lists, merged out of their blocks: each block's body is read once, when its list needs it.
 ghost use Rattle.exhaustive.specs.Merge.{Addressed, Opens, Mergeable, Merges};
 
-use crate::fill::{Filled, Left};
+use crate::fill::{Left, Stock};
 use rank::keep::Kept;
 use scan::head::Head;
+use scan::load::WrongBody;
 use std::array;
 
-// Where the lists stand, and what is left of them on the shelf.
-#[derive(Drop)]
-pub struct Opened {
-    pub heads: [Head; 8],
-    pub lefts: [Left; 8],
-}
-
-// Whether no body is wrong, and then the best hits.
-#[derive(Drop)]
-pub struct Merged {
-    pub right: bool,
-    pub kept: Kept,
-}
-
 // Each list before its first block.
-fn open_all(ats: [usize; 8], counts: [u8; 8], weights: [u8; 8]) -> Opened
+fn open_all(ats: [usize; 8], counts: [u8; 8], weights: [u8; 8]) -> Stock
     requires { Addressed ats counts }
     ensures { Opens ats counts weights result }
 {
@@ -44,7 +31,7 @@ fn open_all(ats: [usize; 8], counts: [u8; 8], weights: [u8; 8]) -> Opened
             top: 0,
         };
     }
-    Opened { heads, lefts }
+    Stock { heads, lefts }
 }
 
 // The k best documents of the lists. A run goes up to where the first list needs its next block; then the lists go on to their next blocks.
@@ -54,29 +41,24 @@ pub(crate) fn merge(
     counts: [u8; 8],
     weights: [u8; 8],
     k: usize,
-) -> Merged
+) -> Result<Kept, WrongBody>
     requires { Mergeable shelf.now ats counts k }
     ensures { Merges shelf.now ats counts weights k result }
 {
     let mut docs = [0u32; 800];
     let mut scores = [0u16; 800];
-    let Opened {
+    let Stock {
         mut heads,
         mut lefts,
     } = open_all(ats, counts, weights);
     let mut kept = Kept::new();
     loop {
-        let Filled {
-            right,
-            heads: hs,
-            lefts: ls,
-        } = crate::fill::fill(shelf, heads, lefts, &mut docs, &mut scores);
-        if !right {
-            return Merged { right: false, kept };
-        }
+        let filled = crate::fill::fill(shelf, heads, lefts, &mut docs, &mut scores)?;
+        let hs = filled.heads;
+        let ls = filled.lefts;
         let last = crate::fill::horizon(hs, ls);
         if last == scan::head::END {
-            return Merged { right: true, kept };
+            return Ok(kept);
         }
         let after = scan::run::run(&docs, &scores, hs, last, k, kept);
         heads = after.heads;
