@@ -5,7 +5,6 @@ ghost use Rattle.rank.specs.Rank.{kth};
 ghost use Rattle.rank.specs.Keep.{kept_of};
 ghost use Rattle.intervals.specs.Run.{last_at, Begins, Idles, Runnable, Runs};
 
-use opening::turn::Turn;
 use rank::keep::Kept;
 use scan::head::Head;
 use std::array;
@@ -90,12 +89,7 @@ pub(crate) fn over_intervals(
         let last = last_of(starts, i);
         let was = mets;
         opening::meet::meet_all(ends, los, his, first, &mut ats, &mut mets);
-        let Turn {
-            heads: stood,
-            kept: best,
-            fresh,
-            wrong,
-        } = opening::turn::open(
+        let turn = opening::turn::open(
             shelf,
             los,
             his,
@@ -113,6 +107,7 @@ pub(crate) fn over_intervals(
             k,
             kept,
         );
+        let wrong = turn.wrong;
         if wrong < none {
             marks[i] = 2;
             marks[i + 1..n].fill(3);
@@ -122,9 +117,9 @@ pub(crate) fn over_intervals(
                 wrong,
             };
         }
-        heads = stood;
-        kept = best;
-        opened += fresh;
+        heads = turn.heads;
+        kept = turn.kept;
+        opened += turn.fresh;
         marks[i] = 1;
         let kth = kth_of(kept, k);
         i = crate::book::skip_shut(ceilings, n, kth, i + 1, marks);

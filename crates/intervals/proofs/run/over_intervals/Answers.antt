@@ -36,8 +36,8 @@ last_of-last-requires c = (c.loop-i-test.true, past_next _ _ _ _ _ _ _ _ _ _ _ _
 pub meet_all-requires : goal.meet_all-requires
 meet_all-requires c = (past-places _ _ _ _ _ _ _ _ _ _ _ _ c.requires _ _ _ _ _ _ _ _ _ _ c.loop-i.invariant.0, c.loop-i.invariant.0.read)
 
-pub open-fresh-requires : goal.open-fresh-requires
-open-fresh-requires c =
+pub open-turn-requires : goal.open-turn-requires
+open-turn-requires c =
     let t = c.loop-i-test.true in
     let v = c.loop-i.invariant.0 in
     (past_enters _ _ _ _ _ _ _ _ _ _ _ _ c.requires _ _ _ _ _ _ _ _ _ _ v t _ _ c.meet_all.ensures, past-opens _ _ _ _ _ _ _ _ _ _ _ _ c.requires _ _ _ _ _ _ _ _ _ _ v t _ _ c.meet_all.ensures _ c.last_of-last.ensures)
@@ -62,12 +62,12 @@ returns-then-wrong-none c =
     let t = c.loop-i-test.true in
     let n = length c.args.starts.now - (l.i + 1) in
     let rest = marks_filled (set l.marks l.i 2) c.fill.new.self (l.i + 1) n 3 (omega (arith, length-set l.marks l.i 2, l.invariant.0.wide, l.invariant.0.same)) (c.fill.ensures.after (λ y e. e)) in
-    past_stop _ _ _ _ _ _ _ _ _ _ _ _ ok _ _ _ _ _ _ _ _ _ _ l.invariant.0 t _ _ c.meet_all.ensures (l.invariant.1 t) _ c.last_of-last.ensures _ _ _ c.open-fresh.ensures _ _ _ c.new.ensures c.if-wrong-none.true (skip_past _ _ _ _ _ _ _ c.skip_shut-i.ensures) rest
+    past_stop _ _ _ _ _ _ _ _ _ _ _ _ ok _ _ _ _ _ _ _ _ _ _ l.invariant.0 t _ _ c.meet_all.ensures (l.invariant.1 t) _ c.last_of-last.ensures _ _ _ c.open-turn.ensures _ _ _ c.new.ensures c.if-wrong-none.true (skip_past _ _ _ _ _ _ _ c.skip_shut-i.ensures) rest
 
 pub overflow_add-opened : goal.overflow_add-opened
 overflow_add-opened c =
     let l = c.loop-i in
-    omega (arith, past-few _ _ _ _ _ _ _ _ _ _ _ _ c.requires _ _ _ _ _ _ _ _ _ _ l.invariant.0, opens-few _ _ _ _ _ _ _ _ _ _ _ _ _ _ _ _ _ _ _ c.open-fresh.ensures)
+    omega (arith, past-few _ _ _ _ _ _ _ _ _ _ _ _ c.requires _ _ _ _ _ _ _ _ _ _ l.invariant.0, opens-few _ _ _ _ _ _ _ _ _ _ _ _ _ _ _ _ _ _ _ c.open-turn.ensures)
 
 pub bounds-marks-i-in-loop-i : goal.bounds-marks-i-in-loop-i
 bounds-marks-i-in-loop-i c =
@@ -75,7 +75,7 @@ bounds-marks-i-in-loop-i c =
     omega (arith, c.loop-i-test.true, v.wide, v.same)
 
 pub kth_of-kth-requires : goal.kth_of-kth-requires
-kth_of-kth-requires c = (c.open-fresh.ensures.room, c.requires.most, c.requires.least)
+kth_of-kth-requires c = (c.open-turn.ensures.room, c.requires.most, c.requires.least)
 
 pub overflow_add-i-in-loop-i : goal.overflow_add-i-in-loop-i
 overflow_add-i-in-loop-i c = omega (arith, c.loop-i-test.true, c.requires.few)
@@ -93,7 +93,7 @@ loop-i-preserved c =
     let ok = c.requires in
     let l = c.loop-i in
     let t = c.loop-i-test.true in
-    let o = past_open _ _ _ _ _ _ _ _ _ _ _ _ ok _ _ _ _ _ _ _ _ _ _ l.invariant.0 t _ _ c.meet_all.ensures (l.invariant.1 t) _ c.last_of-last.ensures _ _ _ c.open-fresh.ensures c.if-wrong-none.false in
+    let o = past_open _ _ _ _ _ _ _ _ _ _ _ _ ok _ _ _ _ _ _ _ _ _ _ l.invariant.0 t _ _ c.meet_all.ensures (l.invariant.1 t) _ c.last_of-last.ensures _ _ _ c.open-turn.ensures c.if-wrong-none.false in
     past_skip _ _ _ _ _ _ _ _ _ _ _ _ ok _ _ _ _ _ _ _ _ _ _ o _ _ _ c.kth_of-kth.ensures c.skip_shut-i-in-loop-i.ensures
 
 pub shape_of-marks : goal.shape_of-marks
