@@ -7,9 +7,8 @@ pub fn without(docs: &mut [u32], scores: &mut [u16], n: usize, d: u32) -> usize
     requires { (n ≤ length docs.old) × (n ≤ length scores.old) }
     ensures { Clears d n docs.old scores.old result docs.new scores.new }
 {
-    let mut i = 0;
     let mut j = 0;
-    while i < n {
+    for i in 0..n {
         let x = docs[i];
         let y = scores[i];
         if x != d {
@@ -17,7 +16,6 @@ pub fn without(docs: &mut [u32], scores: &mut [u16], n: usize, d: u32) -> usize
             scores[j] = y;
             j += 1;
         }
-        i += 1;
     }
     j
 }
@@ -47,9 +45,8 @@ pub fn insert(docs: &mut [u32], scores: &mut [u16], n: usize, d: u32, w: u16) ->
     requires { Insertable d n docs.old scores.old }
     ensures { Inserts d w n docs.old scores.old result docs.new scores.new }
 {
-    let mut i = 0;
     let mut carried = Posting { doc: d, score: w };
-    while i < n {
+    for i in 0..n {
         let here = Posting {
             doc: docs[i],
             score: scores[i],
@@ -58,7 +55,6 @@ pub fn insert(docs: &mut [u32], scores: &mut [u16], n: usize, d: u32, w: u16) ->
         docs[i] = low.doc;
         scores[i] = low.score;
         carried = upper(carried, here);
-        i += 1;
     }
     docs[n] = carried.doc;
     scores[n] = carried.score;
