@@ -85,11 +85,6 @@ num_1 at s h =
     let g : get_or s (at + 0) 0 ≡ get_or s at 0 = rw add-zero in
     omega arith
 
-pub num_4 : (at : ℕ) (s : List ℕ) → at + 4 ≤ length s → num 4 (drop at s) ≡ 65536 * num 2 (drop at s) + num 2 (drop (at + 2) s)
-num_4 at s h =
-    let g : get_or s (at + 2 + 1) 0 ≡ get_or s (at + 3) 0 = ap (λ (k : ℕ). get_or s k 0) (omega arith) in
-    omega (arith, num-at 3 at s (omega arith), num-at 2 at s (omega arith), num-at 1 (at + 2) s (omega arith), num_1 (at + 2) s (omega arith))
-
 -- ---- bytes, the highest first, as the code stores them
 
 pub be-one : (b : ℕ) → b < 256 → be 1 b ≡ b ∷ []
