@@ -72,28 +72,26 @@ module _ (m : Summary) (s : List ℕ) (e : ℕ) (q : e ≡ edge m.strip m.count 
   pub right-start : (b : Cursor) → b ≡ fresh m → right_body m s ≡ fits m.greatest m.top 0 0 (posts_at (take (e - 0) s) (take (length s - e) (drop e s)) b)
   right-start b f = rw (front_of, back_of, f) (right-fresh m s)
 
--- ---- what a turn of the writer's loop needs of the posting at index i, after docid p
+-- ---- what a turn of the writer's loop needs of the posting that comes next, after docid p
 
 -- the bytes that it puts into the first run
 abbrev pub piece : Bool → (p : ℕ) → (d w : ℕ) → List ℕ
 piece strip p d w = gap_bytes (d - p - 1) ++ in_turn strip w
 
-pub record Turn (p i : ℕ) (ds ss : List ℕ) : Type 0 where
-  pub above : p < get_or ds i 0
-  pub rise : Rising (get_or ds i 0) (from (i + 1) ds ss)
-  pub bytes : (strip : Bool) → later_bytes strip p (from i ds ss) ≡ piece strip p (get_or ds i 0) (get_or ss i 0) ++ later_bytes strip (get_or ds i 0) (from (i + 1) ds ss)
+-- docid d with score w comes first of `ps`, and `qs` are the others
+pub record Turn (p d w : ℕ) (ps qs : List Post) : Type 0 where
+  pub above : p < d
+  pub rise : Rising d qs
+  pub bytes : (strip : Bool) → later_bytes strip p ps ≡ piece strip p d w ++ later_bytes strip d qs
 
-pub turn : (p i : ℕ) (ds ss : List ℕ) → length ds ≡ length ss → i < length ds → Rising p (from i ds ss) → Turn p i ds ss
+pub turn : (p d w : ℕ) (ps qs : List Post) → ps ≡ post d w ∷ qs → Rising p ps → Turn p d w ps qs
 unfolding later_bytes
-turn p i ds ss e h r =
-    let d = get_or ds i 0 in
-    let w = get_or ss i 0 in
-    let q = from_cons i ds ss e h in
-    let r1 : Rising p (post d w ∷ from (i + 1) ds ss) = rw q at r in
+turn p d w ps qs q r =
+    let r1 : Rising p (post d w ∷ qs) = rw q at r in
     record {
       above = r1.0;
       rise = r1.1;
-      bytes = λ strip. rw q (sym (append_assoc (gap_bytes (d - p - 1)) (in_turn strip w) (later_bytes strip d (from (i + 1) ds ss))));
+      bytes = λ strip. rw q (sym (append_assoc (gap_bytes (d - p - 1)) (in_turn strip w) (later_bytes strip d qs)));
     }
 
 -- a strip's next score
@@ -104,6 +102,10 @@ back_turn strip i ds ss t e h = rw (t, from_cons i ds ss e h)
 
 pub piece_size : (strip : Bool) (p d w : ℕ) → length (piece strip p d w) ≡ length (gap_bytes (d - p - 1)) + length (in_turn strip w)
 piece_size strip p d w = length-append (gap_bytes (d - p - 1)) (in_turn strip w)
+
+pub later-end : (strip : Bool) (p : ℕ) → later_bytes strip p [] ≡ []
+unfolding later_bytes
+later-end strip p = refl
 
 pub later-none : (strip : Bool) (p i : ℕ) (ds ss : List ℕ) → length ds ≤ i → later_bytes strip p (from i ds ss) ≡ []
 unfolding later_bytes
@@ -175,15 +177,14 @@ body-size [] ss e h = absurd (omega arith)
 body-size (d ∷ ds) [] e h = absurd (omega arith)
 body-size (d ∷ ds) (s ∷ ss) e h = length-append (be 2 s) (later_bytes false d (postings ds ss)) ∙ ap (λ (n : ℕ). n + length (later_bytes false d (postings ds ss))) (be-length 2 s)
 
-pub turn-size : (p i : ℕ) (ds ss : List ℕ) → Turn p i ds ss →
-    length (later_bytes false p (from i ds ss)) ≡ length (gap_bytes (get_or ds i 0 - p - 1)) + 2 + length (later_bytes false (get_or ds i 0) (from (i + 1) ds ss))
-turn-size p i ds ss t =
+pub turn-size : (p d w : ℕ) (ps qs : List Post) → Turn p d w ps qs → length (later_bytes false p ps) ≡ length (gap_bytes (d - p - 1)) + 2 + length (later_bytes false d qs)
+turn-size p d w ps qs t =
     omega (
       arith,
       ap length (t.bytes false),
-      length-append (piece false p (get_or ds i 0) (get_or ss i 0)) (later_bytes false (get_or ds i 0) (from (i + 1) ds ss)),
-      piece_size false p (get_or ds i 0) (get_or ss i 0),
-      be-length 2 (get_or ss i 0),
+      length-append (piece false p d w) (later_bytes false d qs),
+      piece_size false p d w,
+      be-length 2 w,
     )
 
 -- ---- the summary of two runs

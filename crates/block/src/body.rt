@@ -13,7 +13,7 @@ use crate::summary::Summary;
 pub fn is_strip(s: &[u8], at: usize) -> bool
     ensures { result ≡ is_strip (drop at s.now) }
 {
-    if at < s.len() { s[at] == 4 } else { false }
+    at < s.len() && s[at] == 4
 }
 
 // The tag of a body.
@@ -33,8 +33,7 @@ pub fn edge(s: &[u8], m: Summary) -> usize
     if !m.strip {
         return n;
     }
-    let scores = 2 * (m.count as usize);
-    if n < scores { 0 } else { n - scores }
+    n.saturating_sub(2 * (m.count as usize))
 }
 
 // Whether the bytes are a right body for a summary.
@@ -131,14 +130,10 @@ fn put_later(
 {
     let mut p = first;
     let mut j = at;
-    let mut i = 0;
-    while i < docs.len() {
-        let d = docs[i];
-        let s = scores[i];
+    for (&d, &s) in docs.iter().zip(scores) {
         j = wire::gap::put_gap(out, j, (d - p - 1) as u64);
         j = put_in_turn(out, j, strip, s);
         p = d;
-        i += 1;
     }
     j
 }
@@ -152,11 +147,8 @@ fn put_strip(out: &mut [u8], at: usize, strip: bool, docs: &[u32], scores: &[u16
         return at;
     }
     let mut j = at;
-    let mut i = 0;
-    while i < scores.len() {
-        let s = scores[i];
+    for &s in scores {
         j = wire::number::put2(out, j, s);
-        i += 1;
     }
     j
 }
@@ -179,12 +171,9 @@ pub fn body_len(docs: &[u32], scores: &[u16]) -> usize
 {
     let mut p = docs[0];
     let mut t = 2;
-    let mut i = 1;
-    while i < docs.len() {
-        let d = docs[i];
+    for &d in &docs[1..] {
         t += wire::gap::gap_len((d - p - 1) as u64) + 2;
         p = d;
-        i += 1;
     }
     t
 }

@@ -38,7 +38,7 @@ pub fn summary_in(s: &[u8], at: usize, strip: bool) -> Summary
         greatest: wire::number::be3(s, at + 6),
         top: wire::number::be2(s, at + 9),
         count: wire::number::be1(s, at + 11),
-        strip: strip,
+        strip,
     }
 }
 
@@ -76,16 +76,7 @@ pub fn right_summary(prev: u32, m: Summary) -> bool
 fn top_of(scores: &[u16]) -> u16
     ensures { result ≡ max_from 0 scores.now }
 {
-    let mut m = 0;
-    let mut i = 0;
-    while i < scores.len() {
-        let s = scores[i];
-        if m < s {
-            m = s;
-        }
-        i += 1;
-    }
-    m
+    scores.iter().copied().max().unwrap_or(0)
 }
 
 // The summary of some postings, with a body of either layout.
@@ -94,16 +85,12 @@ pub fn summary_of(docs: &[u32], scores: &[u16], strip: bool) -> Summary
     ensures { result ≡ summary_of strip (postings docs.now scores.now) }
 {
     let n = docs.len();
-    let e = n - 1;
-    let least = docs[0];
-    let greatest = docs[e];
-    let top = top_of(scores);
     Summary {
-        least: least,
-        greatest: greatest,
-        top: top,
+        least: docs[0],
+        greatest: docs[n - 1],
+        top: top_of(scores),
         count: n as u8,
-        strip: strip,
+        strip,
     }
 }
 
@@ -111,13 +98,9 @@ pub fn put_summary(out: &mut [u8], at: usize, m: Summary) -> usize
     requires { (m.least < 256 ^ 3) × (m.greatest < 256 ^ 3) × (at + 12 ≤ length out.old) }
     ensures { Stored out.old out.new at result (sum_bytes m) }
 {
-    let least = m.least;
-    let greatest = m.greatest;
-    let top = m.top;
-    let count = m.count;
     let a = wire::field::put_head(out, at, 2, 9);
-    let b = wire::number::put3(out, a, least);
-    let c = wire::number::put3(out, b, greatest);
-    let d = wire::number::put2(out, c, top);
-    wire::number::put1(out, d, count)
+    let b = wire::number::put3(out, a, m.least);
+    let c = wire::number::put3(out, b, m.greatest);
+    let d = wire::number::put2(out, c, m.top);
+    wire::number::put1(out, d, m.count)
 }

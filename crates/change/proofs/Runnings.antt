@@ -1,22 +1,24 @@
 -- Loops over two runs, in place: one posting taken out, one put in. Assumes nothing.
-use Prim.Native.Nat.{ℕ, ◌+◌, ◌-◌, ◌≤◌, ◌<◌}
+use Rattle.std.specs.List.{copy_within}
+use Rattle.std.specs.List.Sorted.{IsPartitionPoint, IsPartitionedBy}
+use Rattle.std.proofs.lemmas.Slice.{between_is}
+use Rattle.std.proofs.lemmas.List.Sorted.{IsPartitionedBy-ltb, IsNonDecreasingBy-from_all_adjacent}
+use Prim.Native.Nat.{ℕ, zero, suc, ◌+◌, ◌-◌, ◌≤◌, ◌<◌}
 use native.Mathlib.Omega.{arith}
 use native.Mathlib.Numerals.{add-one}
 use mathlib.Core.Path.{◌≡◌, refl, sym, ap, subst, ◌∙◌}
-use mathlib.Core.List.{List, [], ◌∷◌, ◌++◌, append_assoc}
-use mathlib.Core.Bool.{true, false}
-use borrow.Author.Tests.{lt-ltb, eq-eqb, ne_eqb}
+use mathlib.Core.List.{List, [], ◌∷◌, ◌++◌}
+use mathlib.Core.Bool.{Bool, true, false, ◌||◌}
+use borrow.Author.Tests.{lt-ltb, le-ltb, ltb-true, ltb-false, eq-eqb, ne_eqb}
 use lib.Dec.{ltb, eqb}
-use lib.ListN.{length, get_or, set, take, drop, length-set, length-append, length-drop, drop_of_length-le}
-use lib.Seq.{take-suc, get_or-drop, get_or-take, drop-cons, length-take-le}
+use lib.ListN.{length, get_or, set, take, drop, length-set, length-append, length-drop, take-append-drop}
+use lib.Seq.{take-suc, take-take, get_or-drop, length-take-le}
 use Rattle.model.specs.Post.{Post, post, postings, docs, scores, Rising}
 use Rattle.model.specs.Runs.{has, Holds}
-use Rattle.model.proofs.Lists.{split, both_ways, map-length, get_d_map}
+use Rattle.model.proofs.Lists.{split, both_ways, map-length}
 use Rattle.model.proofs.Storing.{front-more, past_more, run_holds, holds-take, holds-drop}
 use Rattle.change.specs.Edits.{set_post, clear_post}
-use Rattle.change.specs.Runs.{front, Clears, Insertable, Inserts, lower_of, upper_of}
-use Rattle.change.proofs.Postings.{rising_less}
-use Rattle.change.specs.declared.runs.Posting.{Posting}
+use Rattle.change.specs.Runs.{front, Clears, Insertable, Inserts}
 
 -- ---- postings and their two runs
 
@@ -206,118 +208,83 @@ pub set_first : (d w : ℕ) (ps : List Post) → Rising d ps → set_post d w ps
 set_first d w [] r = refl
 set_first d w (p ∷ ps) r = rw (lt-ltb d p.doc r.0)
 
--- the postings before i are placed, and c is carried before the others
-pub record Carried (d w : ℕ) (ps : List Post) (ds ss : List ℕ) (i : ℕ) (c : Posting) : Type 0 where
-  pub placed : List Post
-  pub docids : take i ds ≡ docs placed
-  pub scored : take i ss ≡ scores placed
-  pub whole : placed ++ set_post c.doc c.score (drop i ps) ≡ set_post d w ps
-  pub rise : Rising 0 (drop i ps)
-  pub free : has c.doc (docs (drop i ps)) ≡ false
+-- docids before place k are lower, and the one that stands there is higher: the posting goes there
+set_at : (d w k : ℕ) (xs ys : List ℕ) → length xs ≡ length ys → k ≤ length xs → ((i : ℕ) → i < k → get_or xs i 0 < d) → (k < length xs → d < get_or xs k 0) →
+    set_post d w (postings xs ys) ≡ postings (take k xs ++ (d ∷ drop k xs)) (take k ys ++ (w ∷ drop k ys))
+set_at d w zero [] [] e l b h = refl
+set_at d w zero [] (y ∷ ys) e l b h = absurd (omega arith)
+set_at d w zero (x ∷ xs) [] e l b h = absurd (omega arith)
+set_at d w zero (x ∷ xs) (y ∷ ys) e l b h = rw (lt-ltb d x (h (omega arith)))
+set_at d w (suc k) [] ys e l b h = absurd (omega arith)
+set_at d w (suc k) (x ∷ xs) [] e l b h = absurd (omega arith)
+set_at d w (suc k) (x ∷ xs) (y ∷ ys) e l b h =
+    let low : x < d = b 0 (omega arith) in
+    rw (le-ltb d x (omega arith), ne_eqb d x (λ (z : d ≡ x). omega arith))
+    (ap {B = List Post} (λ t. post x y ∷ t) (set_at d w k xs ys (omega arith) (omega arith) (λ i q. b (suc i) (omega arith)) (λ q. h (omega arith))))
 
-pub record Inserting (d w n : ℕ) (ds₀ ss₀ ds ss : List ℕ) (i : ℕ) (c : Posting) : Type 0 where
-  pub alike : Alike ds₀ ss₀ ds ss
-  pub most : i ≤ n
-  pub pastd : drop i ds ≡ drop i ds₀
-  pub pasts : drop i ss ≡ drop i ss₀
-  pub carried : Carried d w (front n ds₀ ss₀) ds ss i c
+-- a run that rises
+rising-next : (p : ℕ) (xs ys : List ℕ) (k : ℕ) (z : ℕ) → length xs ≡ length ys → Rising p (postings xs ys) → k + 1 < length xs → get_or xs k z ≤ get_or xs (k + 1) z
+rising-next p xs ys k z e r h = rw (add-one k) (go p xs ys k e r (omega arith))
+  where
+    go : (p : ℕ) (xs ys : List ℕ) (k : ℕ) → length xs ≡ length ys → Rising p (postings xs ys) → suc k < length xs → get_or xs k z ≤ get_or xs (suc k) z
+    go p [] ys k e r h = absurd (omega arith)
+    go p (x ∷ xs) [] k e r h = absurd (omega arith)
+    go p (x ∷ []) (y ∷ ys) k e r h = absurd (omega arith)
+    go p (x ∷ a ∷ xs) (y ∷ []) k e r h = absurd (omega arith)
+    go p (x ∷ a ∷ xs) (y ∷ b ∷ ys) zero e r h = omega (arith, r.1.0)
+    go p (x ∷ a ∷ xs) (y ∷ b ∷ ys) (suc k) e r h = go x (a ∷ xs) (b ∷ ys) k (omega arith) r.1 (omega arith)
 
--- q goes to place i, and c is carried on
-carry_on : (d w : ℕ) (ps : List Post) (ds ss : List ℕ) (i x y : ℕ) (c e : Posting) (rest : List Post) → i < length ds → i < length ss → (k : Carried d w ps ds ss i c) → drop (i + 1) ps ≡ rest →
-    set_post c.doc c.score (drop i ps) ≡ post x y ∷ set_post e.doc e.score rest → Rising 0 rest → has e.doc (docs rest) ≡ false →
-    Carried d w ps (set ds i x) (set ss i y) (i + 1) e
-carry_on d w ps ds ss i x y c e rest h l k q s r f =
+-- what a run does not hold stands nowhere in it
+neither : (a b : Bool) → (a || b) ≡ false → (a ≡ false) × (b ≡ false)
+neither true b h = (cc, cc)
+neither false b h = (refl, h)
+
+not_at : (d : ℕ) (xs : List ℕ) (k : ℕ) → k < length xs → has d xs ≡ false → d ≡ get_or xs k 0 → ⊥
+not_at d [] k h f e = absurd (omega arith)
+not_at d (x ∷ xs) zero h f e = both_ways (eqb d x) (eq-eqb d x e) (neither (eqb d x) (has d xs) f).0
+not_at d (x ∷ xs) (suc k) h f e = not_at d xs k (omega arith) (neither (eqb d x) (has d xs) f).1 e
+
+-- x stored at place k, from which those that stood there have moved up by one
+moved : (k x : ℕ) (l m r : List ℕ) → k < length l → set ((take (suc k) l ++ m) ++ r) k x ≡ (take k l ++ (x ∷ m)) ++ r
+moved k x [] m r h = absurd (omega arith)
+moved zero x (a ∷ l) m r h = refl
+moved (suc k) x (a ∷ l) m r h = ap {B = List ℕ} (λ t. a ∷ t) (moved k x l m r (omega arith))
+
+pub moved_up : (k n x : ℕ) (l : List ℕ) → k ≤ n → n < length l → Holds l (take k (take n l) ++ (x ∷ drop k (take n l))) (set (copy_within l k n (k + 1)) k x) (n + 1)
+moved_up k n x l h q =
+    let xs = take n l in
+    let e : k + 1 + (n - k) ≡ n + 1 = omega arith in
+    let m : take (n - k) (drop k l) ≡ drop k xs = between_is l k n in
+    let f : take k l ≡ take k xs = sym (take-take k n l h) in
     record {
-      placed = k.placed ++ (post x y ∷ []);
-      docids = front-more ds i x h ∙ rw k.docids (sym (docs-append k.placed (post x y ∷ [])));
-      scored = front-more ss i y l ∙ rw k.scored (sym (scores-append k.placed (post x y ∷ [])));
-      whole = rw (append_assoc k.placed (post x y ∷ []) (set_post e.doc e.score (drop (i + 1) ps)), q, ← s) k.whole;
-      rise = rw q r;
-      free = rw q f;
+      count = omega (arith, length-append (take k xs) (x ∷ drop k xs), ap length (take-append-drop k xs), length-append (take k xs) (drop k xs), length-take-le n l (omega arith));
+      whole = rw (e, m, add-one k) (moved k x l (drop k xs) (drop (n + 1) l) (omega arith)) ∙ ap (λ (t : List ℕ). (t ++ (x ∷ drop k xs)) ++ drop (n + 1) l) f;
     }
 
--- the posting at i
-here-is : (n i : ℕ) (ds ss : List ℕ) (ps : List Post) → i < n → Runs ds ss n ps → drop i ps ≡ post (get_or ds i 0) (get_or ss i 0) ∷ drop (i + 1) ps
-here-is n i ds ss ps h r =
-    let size = runs-length ds ss n ps r in
-    let p = get_or ps i (post 0 0) in
-    let dd : p.doc ≡ get_or ds i 0 = sym (get_d_map (λ (q : Post). q.doc) (post 0 0) ps i) ∙ ap (λ (t : List ℕ). get_or t i 0) (sym r.docids) ∙ get_or-take n ds i 0 h in
-    let ss1 : p.score ≡ get_or ss i 0 = sym (get_d_map (λ (q : Post). q.score) (post 0 0) ps i) ∙ ap (λ (t : List ℕ). get_or t i 0) (sym r.scored) ∙ get_or-take n ss i 0 h in
-    rw (add-one i, ← dd, ← ss1) (drop-cons ps i (post 0 0) (omega arith))
+module _ (d n : ℕ) (ds ss : List ℕ) (o : Insertable d n ds ss) where
+  even : length (take n ds) ≡ length (take n ss)
+  even = omega (arith, length-take-le n ds (omega (arith, o.roomy)), length-take-le n ss (omega (arith, o.wide)))
 
-carry_turn : (d w n : ℕ) (ds₀ ss₀ ds ss : List ℕ) (ps : List Post) (i x y : ℕ) (c : Posting) → i < length ds → i < length ss → drop i ps ≡ post x y ∷ drop (i + 1) ps →
-    Carried d w ps ds ss i c →
-    Carried d w ps (set ds i (lower_of c (record { doc = x; score = y })).doc) (set ss i (lower_of c (record { doc = x; score = y })).score) (i + 1) (upper_of c (record { doc = x; score = y }))
-carry_turn d w n ds₀ ss₀ ds ss ps i x y c h l e k =
-    let rest = drop (i + 1) ps in
-    let r : Rising 0 (post x y ∷ rest) = rw e at k.rise in
-    let f : has c.doc (docs (post x y ∷ rest)) ≡ false = rw e at k.free in
-    let r0 : Rising 0 rest = rising_less 0 x rest (omega arith) r.1 in
-    split (ltb c.doc x)
-    (λ t. rw t
-    (carry_on d w ps ds ss i c.doc c.score c (record { doc = x; score = y }) rest h l k refl
-    (rw (e, t) (ap {B = List Post} (λ u. post c.doc c.score ∷ u) (sym (set_first x y rest r.1)))) r0 (rising-free x x rest (omega arith) r.1)))
-    (λ t. split (eqb c.doc x)
-    (λ g. both_ways (has c.doc (docs (post x y ∷ rest))) (rw g) f)
-    (λ g. rw t (carry_on d w ps ds ss i x y c c rest h l k refl (rw (e, t, g)) r0 (rw g at f))))
+  -- the docids below d come first
+  pub below-first : IsPartitionedBy (λ y. ltb y d) (take n ds)
+  below-first = IsPartitionedBy-ltb (λ y. y) (take n ds) d (IsNonDecreasingBy-from_all_adjacent (λ y. y) (take n ds) (λ k z q. rising-next 0 (take n ds) (take n ss) k z even o.rise q))
 
-module _ (d w n : ℕ) (ds₀ ss₀ : List ℕ) (o : Insertable d n ds₀ ss₀) where
-  pub insert-start : Inserting d w n ds₀ ss₀ ds₀ ss₀ 0 (record { doc = d; score = w })
-  insert-start =
+  -- both runs moved up from place k, and the posting stored there
+  pub inserted : (w k : ℕ) → k ≤ n → IsPartitionPoint (λ y. ltb y d ≡ true) (λ y. ltb y d ≡ false) (take n ds) k →
+      Inserts d w n ds ss (n + 1) (set (copy_within ds k n (k + 1)) k d) (set (copy_within ss k n (k + 1)) k w)
+  inserted w k h q =
+      let xs = take n ds in
+      let ys = take n ss in
+      let size : length xs ≡ n = length-take-le n ds (omega (arith, o.roomy)) in
+      let free : has d xs ≡ false = rw (docs-of xs ys even) at o.free in
+      let above : k < length xs → d < get_or xs k 0 = λ l. let z = not_at d xs k l free in let g = ltb-false (get_or xs k 0) d (q.1 k 0 (omega arith) l) in omega arith in
+      let p : set_post d w (front n ds ss) ≡ postings (take k xs ++ (d ∷ drop k xs)) (take k ys ++ (w ∷ drop k ys)) =
+      set_at d w k xs ys even (omega arith) (λ i l. ltb-true _ _ (q.0 i 0 (omega arith) l)) above in
+      let same : length (take k xs ++ (d ∷ drop k xs)) ≡ length (take k ys ++ (w ∷ drop k ys)) = sym (moved_up k n d ds h o.roomy).count ∙ (moved_up k n w ss h o.wide).count in
       record {
-        alike = record { docids = refl; scored = refl };
-        most = omega arith;
-        pastd = refl;
-        pasts = refl;
-        carried = record { placed = []; docids = refl; scored = refl; whole = refl; rise = o.rise; free = o.free };
+        docids = rw (p, docs-of (take k xs ++ (d ∷ drop k xs)) (take k ys ++ (w ∷ drop k ys)) same) (moved_up k n d ds h o.roomy);
+        scored = rw (p, scores-of (take k xs ++ (d ∷ drop k xs)) (take k ys ++ (w ∷ drop k ys)) same) (moved_up k n w ss h o.wide);
       }
-
-  own_runs : Runs ds₀ ss₀ n (front n ds₀ ss₀)
-  own_runs = front-runs ds₀ ss₀ n (omega (arith, o.roomy)) (omega (arith, o.wide))
-
-  module _ (ds ss : List ℕ) (i : ℕ) (c : Posting) (k : Inserting d w n ds₀ ss₀ ds ss i c) where
-    turn-own : (x y : ℕ) → i < n → x ≡ get_or ds i 0 → y ≡ get_or ss i 0 →
-        Inserting d w n ds₀ ss₀ (set ds i (lower_of c (record { doc = x; score = y })).doc) (set ss i (lower_of c (record { doc = x; score = y })).score) (i + 1) (upper_of c (record { doc = x; score = y }))
-    turn-own x y l ex ey =
-        let a = (lower_of c (record { doc = x; score = y })).doc in
-        let b = (lower_of c (record { doc = x; score = y })).score in
-        let ps = front n ds₀ ss₀ in
-        let p : drop i ps ≡ post x y ∷ drop (i + 1) ps = rw (ex, ey, same_at i ds₀ ds k.pastd, same_at i ss₀ ss k.pasts) (here-is n i ds₀ ss₀ ps l own_runs) in
-        record {
-          alike = record { docids = length-set ds i a ∙ k.alike.docids; scored = length-set ss i b ∙ k.alike.scored };
-          most = omega arith;
-          pastd = past_more ds₀ ds i a k.pastd;
-          pasts = past_more ss₀ ss i b k.pasts;
-          carried = carry_turn d w n ds₀ ss₀ ds ss ps i x y c (omega (arith, o.roomy, k.alike.docids)) (omega (arith, o.wide, k.alike.scored)) p k.carried;
-        }
-
-    -- the lower posting is put at i, the upper one is carried on
-    pub insert-turn : (x y : ℕ) (low up : Posting) → i < n → x ≡ get_or ds i 0 → y ≡ get_or ss i 0 → low ≡ lower_of c (record { doc = x; score = y }) → up ≡ upper_of c (record { doc = x; score = y }) →
-        Inserting d w n ds₀ ss₀ (set ds i low.doc) (set ss i low.score) (i + 1) up
-    insert-turn x y low up l ex ey el eu =
-        subst (λ (u : Posting). Inserting d w n ds₀ ss₀ (set ds i low.doc) (set ss i low.score) (i + 1) u) (sym eu)
-        (subst (λ (v : Posting). Inserting d w n ds₀ ss₀ (set ds i v.doc) (set ss i v.score) (i + 1) (upper_of c (record { doc = x; score = y }))) (sym el) (turn-own x y l ex ey))
-
-    pub insert-done : n ≤ i → Inserts d w n ds₀ ss₀ (n + 1) (set ds n c.doc) (set ss n c.score)
-    insert-done h =
-        let ps = front n ds₀ ss₀ in
-        let z : i ≡ n = omega (arith, k.most) in
-        let g = k.carried in
-        let short : length ps ≤ i = omega (arith, runs-length ds₀ ss₀ n ps own_runs) in
-        let none : drop i ps ≡ [] = drop_of_length-le ps short in
-        let all : g.placed ++ (post c.doc c.score ∷ []) ≡ set_post d w ps = rw none at g.whole in
-        let dd : take n ds ≡ docs g.placed = rw z at g.docids in
-        let dw : take n ss ≡ scores g.placed = rw z at g.scored in
-        let pd : drop n ds ≡ drop n ds₀ = rw z at k.pastd in
-        let pw : drop n ss ≡ drop n ss₀ = rw z at k.pasts in
-        let ld : n < length ds = omega (arith, o.roomy, k.alike.docids) in
-        let lw : n < length ss = omega (arith, o.wide, k.alike.scored) in
-        record {
-          docids = run_holds ds₀ (docs (set_post d w ps)) (set ds n c.doc) (n + 1) (simp length-set (omega arith))
-              (front-more ds n c.doc ld ∙ rw (dd, ← all) (sym (docs-append g.placed (post c.doc c.score ∷ [])))) (past_more ds₀ ds n c.doc pd);
-          scored = run_holds ss₀ (scores (set_post d w ps)) (set ss n c.score) (n + 1) (simp length-set (omega arith))
-              (front-more ss n c.score lw ∙ rw (dw, ← all) (sym (scores-append g.placed (post c.doc c.score ∷ [])))) (past_more ss₀ ss n c.score pw);
-        }
 
 -- the same for the postings that two runs are known to hold
 pub runs_insertable : {d n : ℕ} {ds ss : List ℕ} {ps : List Post} → Runs ds ss n ps → n < length ds → n < length ss → Rising 0 ps → has d (docs ps) ≡ false → Insertable d n ds ss

@@ -7,7 +7,7 @@ use mathlib.Core.Bool.{cond}
 use borrow.Author.Tests.{lt-ltb, le-ltb, eq-eqb, ne_eqb}
 use lib.Dec.{ltb, eqb}
 use lib.ListN.{length, drop}
-use Rattle.model.specs.Outcome.{done}
+use Rattle.model.specs.Outcome.{refused, done}
 use Rattle.shelf.specs.Walk.{Listing, list, lists}
 use Rattle.shelf.specs.Check.{checked}
 use Rattle.shelf.specs.Answers.{placed}

@@ -1,9 +1,8 @@
 -- The private contracts of the edits' code on two runs. Assumes nothing.
-use Rattle.std.specs.Prelude.{ℕ, ◌<◌, ◌≡◌, List, cond, false, ltb, length, take}
+use Rattle.std.specs.Prelude.{ℕ, ◌<◌, ◌≡◌, List, false, length, take}
 use Rattle.model.specs.Post.{Post, postings, docs, scores, Rising}
 use Rattle.model.specs.Runs.{has, Holds}
 use Rattle.change.specs.Edits.{set_post, clear_post}
-use Rattle.change.specs.declared.runs.Posting.{Posting}
 
 -- the first n postings of two runs
 abbrev pub front : ℕ → List ℕ → List ℕ → List Post
@@ -25,10 +24,3 @@ pub record Insertable (d n : ℕ) (ds ss : List ℕ) : Type 0 where
 pub record Inserts (d w n : ℕ) (ds ss : List ℕ) (r : ℕ) (ds' ss' : List ℕ) : Type 0 where
   pub docids : Holds ds (docs (set_post d w (front n ds ss))) ds' r
   pub scored : Holds ss (scores (set_post d w (front n ds ss))) ss' r
-
--- of two postings the one of the lesser docid, and the other
-abbrev pub lower_of : Posting → Posting → Posting
-lower_of a b = cond (ltb a.doc b.doc) a b
-
-abbrev pub upper_of : Posting → Posting → Posting
-upper_of a b = cond (ltb a.doc b.doc) b a

@@ -7,12 +7,7 @@ pub fn copy(out: &mut [u8], at: usize, s: &[u8], from: usize, to: usize) -> usiz
     requires { (from ≤ to) × (to ≤ length s.now) × (at + (to - from) ≤ length out.old) }
     ensures { Stored out.old out.new at result (take (to - from) (drop from s.now)) }
 {
-    let mut i = from;
-    let mut j = at;
-    while i < to {
-        out[j] = s[i];
-        i += 1;
-        j += 1;
-    }
-    j
+    let end = at + (to - from);
+    out[at..end].copy_from_slice(&s[from..to]);
+    end
 }

@@ -8,7 +8,7 @@ ghost use Rattle.list.specs.Answer.{Gives};
 ghost use Rattle.change.specs.Seat.{placed, Placeable};
 
 use crate::seat::Seat;
-use list::answer::Answer;
+use model::refusal::{Fault, Refusal};
 
 // Writes the shelf with the list of these postings, or none, at its seat; or gives number 11 or 9.
 pub fn place(
@@ -18,12 +18,12 @@ pub fn place(
     docs: &[u32],
     scores: &[u16],
     out: &mut [u8],
-) -> Answer
+) -> Result<usize, Refusal>
     requires { Placeable s.now seat docs.now scores.now }
     ensures { (ls : List Listing) → checked s.now ≡ done ls → Gives (placed s.now (length ls) seat term (postings docs.now scores.now) (length out.old)) out.old out.new result }
 {
     if model::MAX_POSTINGS < docs.len() {
-        return Answer::Refused(11, 0);
+        return Err(Fault::Size.at(0));
     }
     let strip = crate::seat::strip_of(s, seat);
     match seat {
@@ -34,7 +34,7 @@ pub fn place(
         }
         Seat::Free(at) => {
             if model::MAX_LISTS as usize <= crate::seat::lists_in(s) {
-                return Answer::Refused(11, 0);
+                return Err(Fault::Size.at(0));
             }
             crate::splice::splice(s, at, at, strip, term, docs, scores, out)
         }

@@ -5,7 +5,7 @@ ghost use Rattle.shelf.specs.Walk.{Listing};
 ghost use Rattle.shelf.specs.Check.{checked};
 ghost use Rattle.change.specs.Seat.{Sounds, seat_of, Fills, Held, strip_by, Stood};
 
-use shelf::walk::{ListRead, Place};
+use shelf::walk::Place;
 
 // The list itself; or the place where it would begin.
 #[derive(Clone, Copy)]
@@ -23,7 +23,7 @@ pub fn find_seat(s: &[u8], term: u32) -> Seat
     let mut floor: u64 = 0;
     while at < s.len() {
         match shelf::walk::list_at(s, at, floor) {
-            ListRead::Is(p) => {
+            Ok(p) => {
                 if term < p.term {
                     return Seat::Free(at);
                 }
@@ -33,7 +33,7 @@ pub fn find_seat(s: &[u8], term: u32) -> Seat
                 at = p.next;
                 floor = p.term as u64 + 1;
             }
-            ListRead::Not(n, o) => {
+            Err(r) => {
                 return Seat::Free(at);
             }
         }
@@ -51,12 +51,12 @@ pub(crate) fn lists_in(s: &[u8]) -> usize
     let mut n: usize = 0;
     while at < s.len() {
         match shelf::walk::list_at(s, at, floor) {
-            ListRead::Is(p) => {
+            Ok(p) => {
                 at = p.next;
                 floor = p.term as u64 + 1;
                 n += 1;
             }
-            ListRead::Not(k, o) => {
+            Err(r) => {
                 return n;
             }
         }

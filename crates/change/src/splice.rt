@@ -6,7 +6,7 @@ ghost use Rattle.model.specs.Runs.{Stored};
 ghost use Rattle.list.specs.Answer.{Gives};
 ghost use Rattle.change.specs.Seat.{packed_bytes, spliced, fitting, May};
 
-use list::answer::Answer;
+use model::refusal::{Fault, Refusal};
 
 // How many bytes a list of these postings takes, in either layout: none without postings.
 pub fn new_len(docs: &[u32], scores: &[u16]) -> usize
@@ -47,20 +47,20 @@ pub(crate) fn splice(
     docs: &[u32],
     scores: &[u16],
     out: &mut [u8],
-) -> Answer
+) -> Result<usize, Refusal>
     requires { (at ≤ next) × (next ≤ length s.now) × (length s.now ≤ max_shelf) × May docs.now scores.now }
     ensures { Gives (fitting (spliced s.now at next (packed_bytes strip term (postings docs.now scores.now))) (length out.old)) out.old out.new result }
 {
     let end = s.len();
     let total = at + new_len(docs, scores) + (end - next);
     if model::MAX_SHELF < total {
-        return Answer::Refused(11, 0);
+        return Err(Fault::Size.at(0));
     }
     if out.len() < total {
-        return Answer::Refused(9, 0);
+        return Err(Fault::Room.at(0));
     }
     let a = crate::copy::copy(out, 0, s, 0, at);
     let b = put_new(out, a, strip, term, docs, scores);
     let c = crate::copy::copy(out, b, s, next, end);
-    Answer::Done(c)
+    Ok(c)
 }

@@ -27,7 +27,7 @@ use Rattle.lookup.proofs.Tables.{blocks-length}
 use Rattle.shelf.proofs.Sounds.{Good, Listed, or_none, sound-good}
 use Rattle.list.specs.Write.{sums_bytes, bodies_bytes, blocks_bytes}
 use Rattle.list.specs.Answer.{Gives}
-use Rattle.list.specs.declared.answer.Answer.TheVariants.{Done}
+use Rattle.std.specs.Prelude.{Ok}
 use Rattle.list.proofs.Writes.{Fines, blocks-size}
 use Rattle.list.proofs.WritesBack.{fine_few}
 use Rattle.list.proofs.Canonical.{chunk, chunks, chunks_length}
@@ -228,7 +228,7 @@ module _ (s : List ℕ) (ls : List Listing) (h : Bytes s) (e : checked s ≡ don
 
     -- the shelf copied to the front of a buffer, and the bodies written over
     pub seat_gives : (l m o : List ℕ) (r : ℕ) → length s ≤ length l → Stored l m 0 r (take (length s - 0) (drop 0 s)) →
-        o ≡ sets m (p.at + 8 + 12 * p.count) (turned_bodies (blocks_at s p.at p.count)) → Gives (turning t s ls (length l)) l o (Done r)
+        o ≡ sets m (p.at + 8 + 12 * p.count) (turned_bodies (blocks_at s p.at p.count)) → Gives (turning t s ls (length l)) l o (Ok r)
     seat_gives l m o r k c w =
         let v = turned_bodies (blocks_at s p.at p.count) in
         let j = joined (turned_pieces t s ls) in

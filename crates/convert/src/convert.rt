@@ -14,9 +14,8 @@ ghost use Rattle.convert.specs.Convert.{turning, converted, turned_bodies, Turns
 
 use block::summary::Summary;
 use change::seat::Seat;
-use list::answer::Answer;
-use shelf::blocks::{BlockStep, Reading};
-use shelf::check::Checked;
+use model::refusal::{Fault, Refusal};
+use shelf::blocks::Reading;
 use shelf::walk::Place;
 
 // A right body in the other layout, as a field at a place that has room; gives the place past it.
@@ -36,44 +35,32 @@ fn turn_bodies(s: &[u8], list: Place, out: &mut [u8])
     requires { Turnable s.now list out.old }
     ensures { out.new ≡ sets out.old (list.at + 8 + 12 * list.count) (turned_bodies (blocks_at s.now list.at list.count)) }
 {
-    let mut r = Reading::new(list);
-    loop {
-        match r.next(s) {
-            BlockStep::Block(m, start, end, onward) => {
-                turn_body(&s[start..end], m, out, start - 3);
-                r = onward;
-            }
-            BlockStep::Last => {
-                return;
-            }
-        }
+    let mut reading = Reading::new(list);
+    while let Some(b) = reading.next(s) {
+        turn_body(&s[b.start..b.end], b.summary, out, b.start - 3);
     }
 }
 
 // The list of a term on a sound shelf: 12, then 9.
-fn convert_sound(s: &[u8], term: u32, out: &mut [u8]) -> Answer
+fn convert_sound(s: &[u8], term: u32, out: &mut [u8]) -> Result<usize, Refusal>
     requires { Sounds s.now }
     ensures { (ls : List Listing) → checked s.now ≡ done ls → Gives (turning term s.now ls (length out.old)) out.old out.new result }
 {
-    match change::seat::find_seat(s, term) {
-        Seat::Free(at) => Answer::Refused(12, 0),
-        Seat::Taken(list) => {
-            if out.len() < s.len() {
-                return Answer::Refused(9, 0);
-            }
-            let n = change::copy::copy(out, 0, s, 0, s.len());
-            turn_bodies(s, list, out);
-            Answer::Done(n)
-        }
+    let Seat::Taken(list) = change::seat::find_seat(s, term) else {
+        return Err(Fault::Absent.at(0));
+    };
+    if out.len() < s.len() {
+        return Err(Fault::Room.at(0));
     }
+    let n = change::copy::copy(out, 0, s, 0, s.len());
+    turn_bodies(s, list, out);
+    Ok(n)
 }
 
 // Turns the list of a term to the other layout: "6/7, 8 (whole shelf), 12, 9".
-pub fn convert(s: &[u8], term: u32, out: &mut [u8]) -> Answer
+pub fn convert(s: &[u8], term: u32, out: &mut [u8]) -> Result<usize, Refusal>
     ensures { Gives (converted term s.now (length out.old)) out.old out.new result }
 {
-    match shelf::check::check(s) {
-        Checked::Sound => convert_sound(s, term, out),
-        Checked::Fault(n, o) => Answer::Refused(n, o),
-    }
+    shelf::check::check(s)?;
+    convert_sound(s, term, out)
 }

@@ -17,7 +17,8 @@ use Rattle.shelf.specs.Walk.{Listing, posts_of, blocks_at, blocks_of}
 use Rattle.shelf.specs.Check.{checked}
 use Rattle.list.specs.Write.{Writable}
 use Rattle.list.specs.Answer.{Gives}
-use Rattle.list.specs.declared.answer.Answer.{Answer}
+use Rattle.std.specs.Prelude.{Result}
+use Rattle.model.specs.declared.refusal.Refusal.{Refusal}
 use Rattle.list.proofs.Pours.{right-count}
 use Rattle.change.specs.Edits.{Set, Clear, set_post, clear_post}
 use Rattle.change.specs.Bytes.{pieces, in_range, settled}
@@ -191,7 +192,7 @@ set-chain {s} {seat} {d} {w} {n} {m} {k} {ds} {ss} {d1} {s1} {d2} {s2} {d3} {s3}
 -- ---- from what was placed to the edit
 
 module _ (s : List ℕ) (ls : List Listing) (b : Bytes s) (e : checked s ≡ done ls) (t d : ℕ) (seat : Seat) (q : seat ≡ seat_of t 0 ls) where
-  pub set_gives : (w k room : ℕ) (ds ss l m : List ℕ) (a : Answer) → Runs ds ss k (set_post d w (held_by s seat)) →
+  pub set_gives : (w k room : ℕ) (ds ss l m : List ℕ) (a : Result ℕ Refusal) → Runs ds ss k (set_post d w (held_by s seat)) →
       Gives (placed s (length ls) seat t (postings (firsts k ds) (firsts k ss)) room) l m a → Gives (settled (Set t d w) (pieces s ls) room) l m a
   set_gives w k room ds ss l m a r g =
       subst (λ (o : Outcome (List ℕ)). Gives o l m a)
@@ -209,7 +210,7 @@ module _ (s : List ℕ) (ls : List Listing) (b : Bytes s) (e : checked s ≡ don
         let h : has d (docs (held_by s seat)) ≡ false = clear-same d (held_by s seat) (omega (arith, clear-count, left-count)) in
         settled-clear s ls b e t d room seat q ∙ rw h
 
-    pub clear-gives : (room : ℕ) (l m : List ℕ) (a : Answer) → (k ≡ n → ⊥) →
+    pub clear-gives : (room : ℕ) (l m : List ℕ) (a : Result ℕ Refusal) → (k ≡ n → ⊥) →
         Gives (placed s (length ls) seat t (postings (firsts k ds) (firsts k ss)) room) l m a → Gives (settled (Clear t d) (pieces s ls) room) l m a
     clear-gives room l m a z g =
         let h : has d (docs (held_by s seat)) ≡ true = clear-fewer d (held_by s seat) (λ (y : length (clear_post d (held_by s seat)) ≡ length (held_by s seat)). z (omega (arith, clear-count, left-count))) in

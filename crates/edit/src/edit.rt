@@ -8,8 +8,7 @@ ghost use Rattle.change.specs.Edits.{Set, Clear, Withdraw};
 ghost use Rattle.change.specs.Bytes.{docid_in, in_range, pieces, settled, edited};
 ghost use Rattle.change.specs.Seat.{Sounds, Wide};
 
-use list::answer::Answer;
-use shelf::check::Checked;
+use model::refusal::{Fault, Refusal};
 
 fn docid_in(d: u32) -> bool
     ensures { result ≡ docid_in d }
@@ -28,7 +27,7 @@ fn set_in(
     docs: &mut [u32],
     scores: &mut [u16],
     out: &mut [u8],
-) -> Answer
+) -> Result<usize, Refusal>
     requires { (in_range (Set term docid score) ≡ true) × Sounds s.now × Wide docs.old scores.old }
     ensures { (ls : List Listing) → checked s.now ≡ done ls → Gives (settled (Set term docid score) (pieces s.now ls) (length out.old)) out.old out.new result }
 {
@@ -39,7 +38,7 @@ fn set_in(
     change::place::place(s, seat, term, &docs[0..k], &scores[0..k], out)
 }
 
-fn set_sound(s: &[u8], term: u32, docid: u32, score: u16, out: &mut [u8]) -> Answer
+fn set_sound(s: &[u8], term: u32, docid: u32, score: u16, out: &mut [u8]) -> Result<usize, Refusal>
     requires { (in_range (Set term docid score) ≡ true) × Sounds s.now }
     ensures { (ls : List Listing) → checked s.now ≡ done ls → Gives (settled (Set term docid score) (pieces s.now ls) (length out.old)) out.old out.new result }
 {
@@ -49,19 +48,17 @@ fn set_sound(s: &[u8], term: u32, docid: u32, score: u16, out: &mut [u8]) -> Ans
 }
 
 // "Set (term, docid, score) adds or replaces."
-pub fn set(s: &[u8], term: u32, docid: u32, score: u16, out: &mut [u8]) -> Answer
+pub fn set(s: &[u8], term: u32, docid: u32, score: u16, out: &mut [u8]) -> Result<usize, Refusal>
     ensures { Gives (edited (Set term docid score) s.now (length out.old)) out.old out.new result }
 {
     if !docid_in(docid) {
-        return Answer::Refused(10, 0);
+        return Err(Fault::Posting.at(0));
     }
     if score == 0 {
-        return Answer::Refused(10, 0);
+        return Err(Fault::Posting.at(0));
     }
-    match shelf::check::check(s) {
-        Checked::Sound => set_sound(s, term, docid, score, out),
-        Checked::Fault(n, o) => Answer::Refused(n, o),
-    }
+    shelf::check::check(s)?;
+    set_sound(s, term, docid, score, out)
 }
 
 // ---- clear
@@ -73,7 +70,7 @@ fn clear_in(
     docs: &mut [u32],
     scores: &mut [u16],
     out: &mut [u8],
-) -> Answer
+) -> Result<usize, Refusal>
     requires { Sounds s.now × Wide docs.old scores.old }
     ensures { (ls : List Listing) → checked s.now ≡ done ls → Gives (settled (Clear term docid) (pieces s.now ls) (length out.old)) out.old out.new result }
 {
@@ -81,12 +78,12 @@ fn clear_in(
     let n = change::seat::held(s, seat, docs, scores);
     let m = change::runs::without(docs, scores, n, docid);
     if m == n {
-        return Answer::Refused(12, 0);
+        return Err(Fault::Absent.at(0));
     }
     change::place::place(s, seat, term, &docs[0..m], &scores[0..m], out)
 }
 
-fn clear_sound(s: &[u8], term: u32, docid: u32, out: &mut [u8]) -> Answer
+fn clear_sound(s: &[u8], term: u32, docid: u32, out: &mut [u8]) -> Result<usize, Refusal>
     requires { Sounds s.now }
     ensures { (ls : List Listing) → checked s.now ≡ done ls → Gives (settled (Clear term docid) (pieces s.now ls) (length out.old)) out.old out.new result }
 {
@@ -96,29 +93,25 @@ fn clear_sound(s: &[u8], term: u32, docid: u32, out: &mut [u8]) -> Answer
 }
 
 // "Clear (term, docid) removes one posting."
-pub fn clear(s: &[u8], term: u32, docid: u32, out: &mut [u8]) -> Answer
+pub fn clear(s: &[u8], term: u32, docid: u32, out: &mut [u8]) -> Result<usize, Refusal>
     ensures { Gives (edited (Clear term docid) s.now (length out.old)) out.old out.new result }
 {
     if !docid_in(docid) {
-        return Answer::Refused(10, 0);
+        return Err(Fault::Posting.at(0));
     }
-    match shelf::check::check(s) {
-        Checked::Sound => clear_sound(s, term, docid, out),
-        Checked::Fault(n, o) => Answer::Refused(n, o),
-    }
+    shelf::check::check(s)?;
+    clear_sound(s, term, docid, out)
 }
 
 // ---- withdraw
 
 // "Withdraw (docid) removes a sheet from every list."
-pub fn withdraw(s: &[u8], docid: u32, out: &mut [u8]) -> Answer
+pub fn withdraw(s: &[u8], docid: u32, out: &mut [u8]) -> Result<usize, Refusal>
     ensures { Gives (edited (Withdraw docid) s.now (length out.old)) out.old out.new result }
 {
     if !docid_in(docid) {
-        return Answer::Refused(10, 0);
+        return Err(Fault::Posting.at(0));
     }
-    match shelf::check::check(s) {
-        Checked::Sound => crate::withdraw::withdraw_sound(s, docid, out),
-        Checked::Fault(n, o) => Answer::Refused(n, o),
-    }
+    shelf::check::check(s)?;
+    crate::withdraw::withdraw_sound(s, docid, out)
 }

@@ -7,7 +7,7 @@ ghost use Rattle.edit.specs.Left.{posts_at, Sought};
 
 use block::cursor::{Cursor, Step};
 use block::summary::Summary;
-use shelf::blocks::{BlockStep, Reading};
+use shelf::blocks::Reading;
 use shelf::walk::Place;
 
 // Whether a body's postings, which rise, hold docid `d`: none past the first that is not below it is read.
@@ -42,18 +42,11 @@ pub(crate) fn holds(s: &[u8], list: Place, d: u32) -> bool
     requires { Sought s.now list }
     ensures { result ≡ has d (docs (posts_at s.now list)) }
 {
-    let mut r = Reading::new(list);
-    loop {
-        match r.next(s) {
-            BlockStep::Block(m, start, end, onward) => {
-                if d <= m.greatest {
-                    return body_holds(&s[start..end], m, d);
-                }
-                r = onward;
-            }
-            BlockStep::Last => {
-                return false;
-            }
+    let mut reading = Reading::new(list);
+    while let Some(b) = reading.next(s) {
+        if d <= b.summary.greatest {
+            return body_holds(&s[b.start..b.end], b.summary, d);
         }
     }
+    false
 }

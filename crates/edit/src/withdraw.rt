@@ -11,8 +11,8 @@ ghost use Rattle.change.specs.Seat.{Sounds, Wide};
 ghost use Rattle.edit.specs.Left.{Sized, LeftOf, left_bytes, Measures};
 
 use change::seat::Seat;
-use list::answer::Answer;
-use shelf::walk::{ListRead, Place};
+use model::refusal::{Fault, Refusal};
+use shelf::walk::Place;
 
 // How many bytes are left, and whether the docid was held.
 #[derive(Drop)]
@@ -76,14 +76,14 @@ fn measure(s: &[u8], d: u32, docs: &mut [u32], scores: &mut [u16]) -> Left
     let mut held = false;
     while at < s.len() {
         match shelf::walk::list_at(s, at, floor) {
-            ListRead::Is(p) => {
+            Ok(p) => {
                 let l = list_left(s, p, d, docs, scores);
                 bytes += l.bytes;
                 held = held | l.held;
                 at = p.next;
                 floor = p.term as u64 + 1;
             }
-            ListRead::Not(n, o) => {
+            Err(r) => {
                 return Left { bytes, held };
             }
         }
@@ -101,12 +101,12 @@ fn put_all(s: &[u8], d: u32, docs: &mut [u32], scores: &mut [u16], out: &mut [u8
     let mut j: usize = 0;
     while at < s.len() {
         match shelf::walk::list_at(s, at, floor) {
-            ListRead::Is(p) => {
+            Ok(p) => {
                 j = put_left(s, p, d, docs, scores, out, j);
                 at = p.next;
                 floor = p.term as u64 + 1;
             }
-            ListRead::Not(n, o) => {
+            Err(r) => {
                 return j;
             }
         }
@@ -114,24 +114,30 @@ fn put_all(s: &[u8], d: u32, docs: &mut [u32], scores: &mut [u16], out: &mut [u8
     j
 }
 
-fn withdraw_in(s: &[u8], docid: u32, docs: &mut [u32], scores: &mut [u16], out: &mut [u8]) -> Answer
+fn withdraw_in(
+    s: &[u8],
+    docid: u32,
+    docs: &mut [u32],
+    scores: &mut [u16],
+    out: &mut [u8],
+) -> Result<usize, Refusal>
     requires { Sounds s.now × Wide docs.old scores.old }
     ensures { (ls : List Listing) → checked s.now ≡ done ls → Gives (settled (Withdraw docid) (pieces s.now ls) (length out.old)) out.old out.new result }
 {
     let left = measure(s, docid, docs, scores);
     if !left.held {
-        return Answer::Refused(12, 0);
+        return Err(Fault::Absent.at(0));
     }
     if model::MAX_SHELF < left.bytes {
-        return Answer::Refused(11, 0);
+        return Err(Fault::Size.at(0));
     }
     if out.len() < left.bytes {
-        return Answer::Refused(9, 0);
+        return Err(Fault::Room.at(0));
     }
-    Answer::Done(put_all(s, docid, docs, scores, out))
+    Ok(put_all(s, docid, docs, scores, out))
 }
 
-pub(crate) fn withdraw_sound(s: &[u8], docid: u32, out: &mut [u8]) -> Answer
+pub(crate) fn withdraw_sound(s: &[u8], docid: u32, out: &mut [u8]) -> Result<usize, Refusal>
     requires { Sounds s.now }
     ensures { (ls : List Listing) → checked s.now ≡ done ls → Gives (settled (Withdraw docid) (pieces s.now ls) (length out.old)) out.old out.new result }
 {

@@ -2,8 +2,8 @@
 use native.Mathlib.Omega.{arith}
 use Prim.Native.Nat.{ℕ, ◌≤◌, min}
 use mathlib.Core.Path.{◌≡◌, refl, sym, ap, ◌∙◌}
-use mathlib.Core.List.{List}
-use lib.ListN.{length, take, length-take}
+use mathlib.Core.List.{List, ◌++◌}
+use lib.ListN.{length, take, drop, length-take}
 use Rattle.model.specs.Limits.{max_k}
 use Rattle.model.specs.Outcome.{Outcome, refused, done}
 use Rattle.model.specs.Runs.{Holds}
@@ -48,15 +48,14 @@ search-fit q s rows fs cs ms fs' cs' ms' ds ss r a b h m =
 
 -- ---- a keeper's rows
 
-pub both_columns : (n : ℕ) (ds ss old olds new news : List ℕ) (r t : ℕ) → length ds ≡ length ss
-    → Holds old (take n ds) new r → Holds olds (take n ss) news t → Rows (take n (postings ds ss)) old olds new news t
-both_columns n ds ss old olds new news r t e g h =
+pub both_columns : (n : ℕ) (ds ss old olds front fronts : List ℕ) → length ds ≡ length ss → n ≤ length ds
+    → front ≡ take n ds → fronts ≡ take n ss → Rows (take n (postings ds ss)) old olds (front ++ drop n old) (fronts ++ drop n olds) n
+both_columns n ds ss old olds front fronts e m g h =
     let d : docs (take n (postings ds ss)) ≡ take n ds = map-take (λ (p : Post). p.doc) n (postings ds ss) ∙ ap (take n) (docs-of ds ss e) in
     let s : scores (take n (postings ds ss)) ≡ take n ss = map-take (λ (p : Post). p.score) n (postings ds ss) ∙ ap (take n) (scores-of ds ss e) in
-    let u : r ≡ t = omega (arith, g.count, h.count, length-take n ds, length-take n ss) in
     record {
-      docids = record { count = sym u ∙ g.count ∙ ap length (sym d); whole = rw (sym d, u) at g.whole };
-      scored = record { count = h.count ∙ ap length (sym s); whole = rw (sym s) at h.whole };
+      docids = record { count = omega (arith, ap length d, length-take n ds); whole = rw (d, g) };
+      scored = record { count = omega (arith, ap length s, length-take n ss); whole = rw (s, h) };
     }
 
 -- ---- a ranking's rows, as they are told

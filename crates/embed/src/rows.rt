@@ -1,5 +1,4 @@
 // Hits as rows of two lent runs.
-ghost use Rattle.std.specs.Prelude.{◌≡◌, min};
 ghost use Rattle.rank.specs.Keep.{kept_of};
 ghost use Rattle.exhaustive.specs.Exhaustive.{paper_of};
 ghost use Rattle.embed.specs.Rows.{Fit, Rows, Hits};
@@ -8,22 +7,15 @@ use exhaustive::all::Verdict;
 use list::answer::Answer;
 use rank::keep::Kept;
 
-// The shorter of two lengths.
-pub(crate) fn shorter(a: usize, b: usize) -> usize
-    ensures { result ≡ min a b }
-{
-    if a <= b { a } else { b }
-}
-
 // Stores the hits that a keeper holds to the front of two runs that have room for them; gives how many there are.
 fn put_rows(kept: Kept, docids: &mut [u32], scores: &mut [u32]) -> usize
     requires { Fit kept docids.old scores.old }
     ensures { Rows (kept_of kept) docids.old scores.old docids.new scores.new result }
 {
-    let from_docids = kept.docids;
-    let from_scores = kept.scores;
-    prune::cut::copy_run(&from_docids, kept.n, docids);
-    prune::cut::copy_run(&from_scores, kept.n, scores)
+    let n = kept.n;
+    docids[..n].copy_from_slice(&kept.docids[..n]);
+    scores[..n].copy_from_slice(&kept.scores[..n]);
+    n
 }
 
 // A ranker's answer as C gets it: the hits in front of two runs that have room for them, and how many there are; a refusal touches neither run.

@@ -16,7 +16,7 @@ pub extern "C" fn tagmurlen_rank_all(
 ) -> u32
     ensures { Hits (rank_all query.now bytes.now (min (length docids.old) (length scores.old))) docids.old scores.old docids.new scores.new result value.new }
 {
-    let rows = crate::rows::shorter(docids.len(), scores.len());
+    let rows = docids.len().min(scores.len());
     let ranked = exhaustive::all::rank_all(query, bytes, rows);
     let verdict = ranked.verdict;
     let kept = ranked.kept;
@@ -41,7 +41,7 @@ pub extern "C" fn tagmurlen_search(
 ) -> u32
     ensures { Finds (searched query.now bytes.now (min (length docids.old) (length scores.old)) firsts.old ceilings.old marks.old) docids.old scores.old docids.new scores.new firsts.new ceilings.new marks.new result value.new intervals.new opened.new blocks.new }
 {
-    let rows = crate::rows::shorter(docids.len(), scores.len());
+    let rows = docids.len().min(scores.len());
     let found = pruned::search::search(query, bytes, rows, firsts, ceilings, marks);
     *intervals = found.intervals as u64;
     *opened = found.opened as u64;

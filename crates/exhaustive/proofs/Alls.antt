@@ -1,6 +1,6 @@
 -- The exhaustive ranker's answer, by what the query's reader and the walk told. Assumes nothing.
 use Prim.Native.Nat.{ℕ, zero, suc, ◌-◌, ◌≤◌, ◌<◌}
-use mathlib.Core.Path.{◌≡◌, refl, ap, subst, ◌∙◌}
+use mathlib.Core.Path.{◌≡◌, ap, subst, ◌∙◌}
 use mathlib.Core.Option.{some}
 use mathlib.Core.List.{List, ◌++◌}
 use native.Mathlib.Omega.{arith}
@@ -11,18 +11,16 @@ use Rattle.model.specs.Outcome.{Outcome, refused, done}
 use Rattle.model.specs.Runs.{Bytes}
 use Rattle.model.proofs.Storing.{holds-take}
 use Rattle.query.specs.Query.{Question, asked, weights_of, terms_of as asked_terms}
-use Rattle.query.specs.Answers.{Carries, Tells, zeros as no_terms}
+use Rattle.query.specs.Answers.{Carries, zeros as no_terms}
 use Rattle.query.specs.declared.read.Query.{Query}
-use Rattle.query.specs.declared.read.QueryRead.{QueryRead}
-use Rattle.query.specs.declared.read.Verdict.TheVariants.{Good, Bad}
 use Rattle.query.proofs.Accepted.{accepted_in_range}
 use Rattle.shelf.specs.Walk.{Listing, walk}
-use Rattle.shelf.specs.Check.{judged, paper}
-use Rattle.lookup.specs.Gather.{Finds}
-use Rattle.shelf.specs.declared.check.Checked.{Checked}
-use Rattle.shelf.specs.declared.check.Checked.TheVariants.{Sound, Fault}
+use Rattle.lookup.specs.Gather.{Located}
 use Rattle.lookup.specs.declared.gather.Found.{Found}
 use Rattle.rank.specs.Rank.{Hit}
+use Rattle.rank.specs.declared.keep.Kept.{Kept}
+use Rattle.model.specs.declared.refusal.Refusal.{Refusal}
+use Rattle.std.specs.Prelude.{Result}
 use Rattle.rank.specs.Match.{any_list}
 use Rattle.prune.specs.Cut as prune
 use Rattle.prune.specs.Prune.{fault_all, exhaustive}
@@ -30,32 +28,13 @@ use Rattle.prune.proofs.Rooms.{Within, then_within, judged-within, exhaustive-wi
 use Rattle.exhaustive.specs.Lists.{listings_of}
 use Rattle.exhaustive.specs.Exhaustive.{rank_all, Answers}
 use Rattle.exhaustive.specs.Merge.{Mergeable, lists_from}
-use Rattle.exhaustive.specs.declared.all.Ranked.{Ranked}
 use Rattle.exhaustive.proofs.Founds.{zeros, ats_of, counts_of, blanks, all-walked, all-addressed, all-lists, blank-ranked}
 
-pub answers_as : {o p : Outcome (List Hit)} {r : Ranked} → o ≡ p → Answers o r → Answers p r
-answers_as {o} {p} {r} e a = subst (λ (x : Outcome (List Hit)). Answers x r) e a
+pub answers_as : {o p : Outcome (List Hit)} (r : Result Kept Refusal) → o ≡ p → Answers o r → Answers p r
+answers_as {o} {p} r e a = subst (λ (x : Outcome (List Hit)). Answers x r) e a
 
 pub fault_refuses : (k : ℕ) (ls : List prune.Listing) (o : ℕ) → fault_all ls ≡ some o → refused 8 o ≡ exhaustive any_list k ls
 fault_refuses k ls o e = rw e
-
--- ---- what the query's reader told
-pub told_bad : (o : Outcome Question) (r : QueryRead) (n at : ℕ) → Tells o r → r.verdict ≡ Bad n at → o ≡ refused n at
-told_bad (refused m p) r n at t e = let q : refused n at ≡ refused m p = rw e at t.verdict in cc
-told_bad (done x) r n at t e = let q : refused n at ≡ done tt = rw e at t.verdict in let z : ◌≡◌ {A = ℕ} 0 1 = cc in absurd (omega arith)
-
-pub told-good : (o : Outcome Question) (r : QueryRead) → Tells o r → r.verdict ≡ Good → (x : Question) × (o ≡ done x) × Carries x r.query
-told-good (refused m p) r t e = let q : done tt ≡ refused m p = rw e at t.verdict in let z : ◌≡◌ {A = ℕ} 0 1 = cc in absurd (omega arith)
-told-good (done x) r t e = (x, refl, t.query)
-
--- ---- what the walk told
-pub walk_bad : (w : Outcome (List Listing)) (v : Checked) (n at : ℕ) → paper v ≡ judged w → v ≡ Fault n at → w ≡ refused n at
-walk_bad (refused m p) v n at t e = let q : refused n at ≡ refused m p = rw e at t in cc
-walk_bad (done ls) v n at t e = let q : refused n at ≡ done tt = rw e at t in let z : ◌≡◌ {A = ℕ} 0 1 = cc in absurd (omega arith)
-
-pub walk-good : (w : Outcome (List Listing)) (v : Checked) → paper v ≡ judged w → v ≡ Sound → (ls : List Listing) × (w ≡ done ls)
-walk-good (refused m p) v t e = let q : done tt ≡ refused m p = rw e at t in let z : ◌≡◌ {A = ℕ} 0 1 = cc in absurd (omega arith)
-walk-good (done ls) v t e = (ls, refl)
 
 -- ---- the answer
 module _ (q s : List ℕ) (rows : ℕ) where
@@ -93,15 +72,15 @@ drop-zeros (suc n) (suc m) l = let e : suc m - suc n ≡ m - n = omega arith in 
 pub carried_few : (q : List ℕ) (x : Question) (c : Query) → Bytes q → asked q ≡ done x → Carries x c → c.n ≤ max_terms
 carried_few q x c b a h = omega (arith, (accepted_in_range q x b a).few, h.terms.count, length-map x.terms (λ y. y.term))
 
-module _ (s : List ℕ) (x : Question) (c : Query) (h : Carries x c) (n : c.n ≤ max_terms) (ls : List Listing) (w : walk s ≡ done ls) (r : Found) (f : Finds s c.terms c.n r) where
+module _ (s : List ℕ) (x : Question) (c : Query) (h : Carries x c) (n : c.n ≤ max_terms) (ls : List Listing) (w : walk s ≡ done ls) (r : Found) (f : Located c.terms c.n ls r) where
   asked-terms : take c.n c.terms ≡ asked_terms x.terms
   asked-terms = holds-take no_terms (asked_terms x.terms) c.terms c.n h.terms
 
   ats_are : r.ats ≡ ats_of ls (max_terms - c.n) (asked_terms x.terms)
-  ats_are = f.ats ∙ rw (w, asked-terms)
+  ats_are = f.ats ∙ rw asked-terms
 
   counts_are : r.counts ≡ counts_of ls (max_terms - c.n) (asked_terms x.terms)
-  counts_are = f.counts ∙ rw (w, asked-terms)
+  counts_are = f.counts ∙ rw asked-terms
 
   weights_are : c.weights ≡ weights_of x.terms ++ zeros (max_terms - c.n)
   weights_are = h.weights.whole ∙ rw (drop-zeros c.n max_terms n)

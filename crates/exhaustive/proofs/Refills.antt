@@ -24,7 +24,8 @@ use Rattle.prune.specs.Prune.{posts_of, fault_in, earlier}
 use Rattle.scan.specs.Heads.{between, head_posts}
 use Rattle.scan.specs.Load.{Loadable, Loads}
 use Rattle.scan.specs.declared.head.Head.{Head}
-use Rattle.scan.specs.declared.load.Loaded.TheVariants.{Stands, Wrong}
+use Rattle.std.specs.Prelude.{Ok, Err}
+use Rattle.scan.specs.Load.{wrong_body}
 use Rattle.scan.proofs.Loadings.{load_stands, load-refused, load-others}
 use Rattle.exhaustive.specs.Lists.{body_of}
 use Rattle.exhaustive.specs.Merge.{on_shelf, Chain, whole, Line, Refilled}
@@ -89,13 +90,13 @@ module _ (s ds ss : List ℕ) (t : ℕ) (h : Head) (l : Left) (w : Line s ds ss 
     body-wrong r = rw (q, f.body, r)
 
     module _ (ds' ss' : List ℕ) where
-      pub refill-wrong : Loads m body h.weight t ds ss ds' ss' Wrong → fault_in (on_shelf s l.blocks) ≡ none → ⊥
+      pub refill-wrong : Loads m body h.weight t ds ss ds' ss' (Err wrong_body) → fault_in (on_shelf s l.blocks) ≡ none → ⊥
       refill-wrong ld x =
           let r = body-wrong (load-refused m body h.weight t ds ss ds' ss' load_ok ld) in
           let y : earlier (some b.body_at) (fault_in (on_shelf s next)) ≡ none = rw (f.left, r) at x in
           earlier-some b.body_at (fault_in (on_shelf s next)) y
 
-      pub refill-next : (h' : Head) → run.none ≤ h.doc → Loads m body h.weight t ds ss ds' ss' (Stands h')
+      pub refill-next : (h' : Head) → run.none ≤ h.doc → Loads m body h.weight t ds ss ds' ss' (Ok h')
           → Refilled s ds ss t h l ds' ss' h' (record { blocks = next; top = m.greatest })
       refill-next h' d ld =
           let r = load_stands m body h.weight t ds ss ds' ss' load_ok h' ld in

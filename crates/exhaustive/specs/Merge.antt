@@ -1,6 +1,7 @@
 -- The merge of a query's lists: what each list still has, in the buffers and on the shelf, and the contracts of the code that brings it on.
 -- Assumes nothing.
-use Rattle.std.specs.Prelude.{ℕ, suc, ◌+◌, ◌-◌, ◌*◌, ◌^◌, ◌≤◌, ◌<◌, min, ◌≡◌, true, false, cond, List, [], ◌∷◌, ◌++◌, map, length, take, drop, eqb, ltb}
+use Rattle.std.specs.Prelude.{ℕ, suc, ◌+◌, ◌-◌, ◌*◌, ◌^◌, ◌≤◌, ◌<◌, min, ◌≡◌, true, false, cond, List, [], ◌∷◌, ◌++◌, map, length, take, drop, eqb, ltb, Result, Ok, Err}
+use Rattle.std.specs.Prelude as prelude
 use Rattle.std.proofs.Math.Option.{Option, none, some}
 use Rattle.model.specs.Limits.{max_docid, max_terms, max_k}
 use Rattle.model.specs.Outcome.{done}
@@ -21,13 +22,9 @@ use Rattle.scan.specs.Heads.{part_of, InBuffers, OwnPart, OwnParts, term_of, ter
 use Rattle.scan.specs.declared.head.Head.{Head}
 use Rattle.exhaustive.specs.Lists.{block_of}
 use Rattle.exhaustive.specs.declared.fill.Left.{Left}
-use Rattle.exhaustive.specs.declared.fill.Filled.{Filled}
-use Rattle.exhaustive.specs.declared.merge.Opened.{Opened}
-use Rattle.exhaustive.specs.declared.merge.Merged.{Merged}
-use Rattle.exhaustive.specs.declared.wrong.WrongBody.{WrongBody}
-use Rattle.exhaustive.specs.declared.wrong.WrongBody.TheVariants.{At, Nowhere}
-use Rattle.exhaustive.specs.declared.fill.Supply.{Supply}
-use Rattle.exhaustive.specs.declared.fill.Supply.TheVariants.{Stands, Wrong}
+use Rattle.exhaustive.specs.declared.fill.Stock.{Stock}
+use Rattle.rank.specs.declared.keep.Kept.{Kept}
+use Rattle.scan.specs.declared.load.WrongBody.{WrongBody}
 
 -- the blocks of a list that begins at a place and has `count` blocks; a term without a list has none
 abbrev pub reading_at : (at count : ℕ) → Reading
@@ -77,9 +74,9 @@ pub record Refilled (s ds ss : List ℕ) (t : ℕ) (h : Head) (l : Left) (ds' ss
   pub settled : Settled s (term_of ds' ss' h') l'
   pub others : OthersStay t ds ss ds' ss'
 
-abbrev pub Refills : (s ds ss : List ℕ) (t : ℕ) (h : Head) (l : Left) (ds' ss' : List ℕ) → Supply → Type 0
-Refills s ds ss t h l ds' ss' (Stands h' l') = Refilled s ds ss t h l ds' ss' h' l'
-Refills s ds ss t h l ds' ss' Wrong = fault_in (on_shelf s l.blocks) ≡ none → ⊥
+abbrev pub Refills : (s ds ss : List ℕ) (t : ℕ) (h : Head) (l : Left) (ds' ss' : List ℕ) → Result (Head × Left) WrongBody → Type 0
+Refills s ds ss t h l ds' ss' (Ok x) = Refilled s ds ss t h l ds' ss' x.0 x.1
+Refills s ds ss t h l ds' ss' (Err e) = fault_in (on_shelf s l.blocks) ≡ none → ⊥
 
 -- ---- all lists of a query, list by list: what their heads have, and what is left of them on the shelf
 
@@ -117,9 +114,9 @@ pub record FilledUp (s ds ss : List ℕ) (hs : List Head) (ls : List Left) (ds' 
   pub fault : fault_left s ls' ≡ fault_left s ls
   pub settled : AllSettled s (terms ds' ss' hs') ls'
 
-pub record Fills (s ds ss : List ℕ) (hs : List Head) (ls : List Left) (ds' ss' : List ℕ) (r : Filled) : Type 0 where
-  pub wrong : r.right ≡ false → fault_left s ls ≡ none → ⊥
-  pub filled : r.right ≡ true → FilledUp s ds ss hs ls ds' ss' r.heads r.lefts
+abbrev pub Fills : (s ds ss : List ℕ) (hs : List Head) (ls : List Left) (ds' ss' : List ℕ) → Result Stock WrongBody → Type 0
+Fills s ds ss hs ls ds' ss' (Ok r) = FilledUp s ds ss hs ls ds' ss' r.heads r.lefts
+Fills s ds ss hs ls ds' ss' (Err e) = fault_left s ls ≡ none → ⊥
 
 -- up to where a run can go: the least greatest docid among the blocks of the lists that stand
 abbrev pub nearer : Head → Left → ℕ → ℕ
@@ -154,7 +151,7 @@ Addressed [] cs = Unit {0}
 Addressed (a ∷ as₀) [] = Unit {0}
 Addressed (a ∷ as₀) (c ∷ cs) = (0 < c → a + 8 + 12 * c < 2 ^ 64) × Addressed as₀ cs
 
-pub record Opens (ats counts weights : List ℕ) (r : Opened) : Type 0 where
+pub record Opens (ats counts weights : List ℕ) (r : Stock) : Type 0 where
   pub heads : r.heads ≡ start_heads 0 weights
   pub lefts : r.lefts ≡ start_lefts ats counts
 
@@ -180,18 +177,22 @@ pub record Mergeable (s ats counts : List ℕ) (k : ℕ) : Type 0 where
   pub least : 0 < k
   pub most : k ≤ max_k
 
--- no body is wrong, and these are the k best; or some body is wrong
-pub record Merges (s ats counts weights : List ℕ) (k : ℕ) (r : Merged) : Type 0 where
-  pub wrong : r.right ≡ false → fault_all (lists_from s weights ats counts) ≡ none → ⊥
-  pub ranked : r.right ≡ true → exhaustive any_list k (lists_from s weights ats counts) ≡ done (kept_of r.kept)
-  pub few : r.kept.n ≤ k
-  pub whole : r.kept ≡ keeper (kept_of r.kept)
+-- no body is wrong, and these are the k best
+pub record Best (s ats counts weights : List ℕ) (k : ℕ) (kept : Kept) : Type 0 where
+  pub ranked : exhaustive any_list k (lists_from s weights ats counts) ≡ done (kept_of kept)
+  pub few : kept.n ≤ k
+  pub whole : kept ≡ keeper (kept_of kept)
+
+-- the k best; or some body is wrong
+abbrev pub Merges : (s ats counts weights : List ℕ) (k : ℕ) → Result Kept WrongBody → Type 0
+Merges s ats counts weights k (Ok kept) = Best s ats counts weights k kept
+Merges s ats counts weights k (Err e) = fault_all (lists_from s weights ats counts) ≡ none → ⊥
 
 -- ---- the first wrong body in byte order
 
-abbrev pub wrong_of : WrongBody → Option ℕ
-wrong_of (At o) = some o
-wrong_of Nowhere = none
+abbrev pub wrong_of : prelude.Option ℕ → Option ℕ
+wrong_of (prelude.Some o) = some o
+wrong_of prelude.None = none
 
 -- a block's body, which stands in the shelf from `start` to `end`, if it is wrong: "its tag"
 abbrev pub wrong_here : List ℕ → Summary → (start end : ℕ) → Option ℕ

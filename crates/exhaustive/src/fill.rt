@@ -3,8 +3,8 @@ ghost use Rattle.std.specs.Prelude.{◌≡◌, ◌+◌, ◌*◌, ◌<◌, ◌^�
 ghost use Rattle.exhaustive.specs.Merge.{reading_at, Line, Refills, Lines, Fills, nearer, horizon_of};
 
 use scan::head::Head;
-use scan::load::Loaded;
-use shelf::blocks::{BlockStep, Reading};
+use scan::load::WrongBody;
+use shelf::blocks::Reading;
 
 // What a list still has on the shelf, and the greatest docid of the block that stands in the buffers.
 #[derive(Clone, Copy)]
@@ -13,10 +13,11 @@ pub struct Left {
     pub top: u32,
 }
 
+// The lists of a query: where each stands in the buffers, and what it still has on the shelf.
 #[derive(Drop)]
-pub enum Supply {
-    Stands(Head, Left),
-    Wrong,
+pub struct Stock {
+    pub heads: [Head; 8],
+    pub lefts: [Left; 8],
 }
 
 // The blocks of a list that was walked; none for a term that has no list.
@@ -33,7 +34,7 @@ pub(crate) fn reading_at(at: usize, count: u8) -> Reading
     }
     let sum = at + 8;
     Reading {
-        sum: sum,
+        sum,
         body: sum + 12 * (count as usize),
         left: count,
     }
@@ -47,37 +48,21 @@ fn refill(
     t: usize,
     docs: &mut [u32; 800],
     scores: &mut [u16; 800],
-) -> Supply
+) -> Result<(Head, Left), WrongBody>
     requires { Line shelf.now docs.old scores.old t head left }
     ensures { Refills shelf.now docs.old scores.old t head left docs.new scores.new result }
 {
     if head.doc < scan::head::END {
-        return Supply::Stands(head, left);
+        return Ok((head, left));
     }
-    let blocks = left.blocks;
-    match blocks.next(shelf) {
-        BlockStep::Last => Supply::Stands(head, left),
-        BlockStep::Block(m, start, end, onward) => {
-            match scan::load::load(&shelf[start..end], m, head.weight, t, docs, scores) {
-                Loaded::Wrong => Supply::Wrong,
-                Loaded::Stands(h) => Supply::Stands(
-                    h,
-                    Left {
-                        blocks: onward,
-                        top: m.greatest,
-                    },
-                ),
-            }
-        }
-    }
-}
-
-// Whether no wrong body was met, and where the lists then stand.
-#[derive(Drop)]
-pub struct Filled {
-    pub right: bool,
-    pub heads: [Head; 8],
-    pub lefts: [Left; 8],
+    let mut blocks = left.blocks;
+    let Some(b) = blocks.next(shelf) else {
+        return Ok((head, left));
+    };
+    let body = &shelf[b.start..b.end];
+    let loaded = scan::load::load(body, b.summary, head.weight, t, docs, scores)?;
+    let top = b.summary.greatest;
+    Ok((loaded, Left { blocks, top }))
 }
 
 // Every list that has come to the end of its block goes on to its next, up to the first wrong body.
@@ -87,36 +72,21 @@ pub(crate) fn fill(
     lefts: [Left; 8],
     docs: &mut [u32; 800],
     scores: &mut [u16; 800],
-) -> Filled
+) -> Result<Stock, WrongBody>
     requires { Lines shelf.now docs.old scores.old heads lefts }
     ensures { Fills shelf.now docs.old scores.old heads lefts docs.new scores.new result }
 {
     let mut hs = heads;
     let mut ls = lefts;
-    let mut t: usize = 0;
-    while t < 8 {
-        let head = hs[t];
-        let left = ls[t];
-        match refill(shelf, head, left, t, docs, scores) {
-            Supply::Stands(h, l) => {
-                hs[t] = h;
-                ls[t] = l;
-            }
-            Supply::Wrong => {
-                return Filled {
-                    right: false,
-                    heads: hs,
-                    lefts: ls,
-                };
-            }
-        }
-        t += 1;
+    for t in 0..8 {
+        let (h, l) = refill(shelf, hs[t], ls[t], t, docs, scores)?;
+        hs[t] = h;
+        ls[t] = l;
     }
-    Filled {
-        right: true,
+    Ok(Stock {
         heads: hs,
         lefts: ls,
-    }
+    })
 }
 
 // The lesser of a docid and the greatest docid of a list's block, if the list stands.
@@ -124,9 +94,7 @@ fn nearer_of(head: Head, left: Left, last: u32) -> u32
     ensures { result ≡ nearer head left last }
 {
     if head.doc < scan::head::END {
-        if left.top < last {
-            return left.top;
-        }
+        return last.min(left.top);
     }
     last
 }
@@ -136,12 +104,8 @@ pub(crate) fn horizon(heads: [Head; 8], lefts: [Left; 8]) -> u32
     ensures { result ≡ horizon_of heads lefts }
 {
     let mut last = scan::head::END;
-    let mut i: usize = 0;
-    while i < 8 {
-        let h = heads[i];
-        let l = lefts[i];
-        last = nearer_of(h, l, last);
-        i += 1;
+    for (&head, &left) in heads.iter().zip(&lefts) {
+        last = nearer_of(head, left, last);
     }
     last
 }

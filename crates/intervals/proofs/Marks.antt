@@ -1,11 +1,13 @@
--- Marks written one by one. Assumes nothing.
+-- Marks written from one place up to another, and one by one. Assumes nothing.
 use Prim.Native.Nat.{ℕ, zero, suc, ◌+◌, ◌-◌, ◌≤◌, ◌<◌}
 use mathlib.Core.Path.{◌≡◌, refl, ap, ◌∙◌}
 use mathlib.Core.Bool.{true, false}
 use mathlib.Core.List.{List, [], ◌∷◌, ◌++◌}
 use native.Mathlib.Omega.{arith}
-use lib.ListN.{length, get_or, set, replicate, length-replicate, length-set}
-use lib.Seq.{sets}
+use lib.ListN.{length, get_or, set, take, drop, replicate, length-replicate, length-set, length-take, length-drop}
+use lib.Seq.{sets, sets-eq, drop-drop}
+use borrow.Rule.Slice.PartMut.{put_mid}
+use Rattle.std.proofs.Common.{append_assoc}
 use Rattle.model.proofs.Lists.{up_to_next}
 use Rattle.model.proofs.Storing.{sets-append}
 use Rattle.intervals.specs.Book.{opens_by, Skips}
@@ -14,7 +16,16 @@ replicate_more : (n v : ℕ) → replicate (suc n) v ≡ replicate n v ++ (v ∷
 replicate_more zero v = refl
 replicate_more (suc n) v = ap {B = List ℕ} (λ t. v ∷ t) (replicate_more n v)
 
--- ---- marks from one place up to another
+-- ---- marks from one place up to another, at once
+
+pub marks_filled : (old part : List ℕ) (from n v : ℕ) → from + n ≤ length old → part ≡ replicate (length (take n (drop from old))) v
+    → put_mid from n old part ≡ sets old from (replicate n v)
+marks_filled old part from n v l e =
+    let long : length (take n (drop from old)) ≡ n = omega (arith, length-take n (drop from old), length-drop from old) in
+    let m : length (replicate n v) ≡ n = length-replicate n v in
+    rw (e, long, sets-eq (replicate n v) old from (omega arith), m, drop-drop, append_assoc)
+
+-- ---- marks one by one: what they have become up to a place
 
 pub record Marking (old : List ℕ) (from upto v : ℕ) (row : List ℕ) (i : ℕ) : Type 0 where
   pub on : from ≤ i
@@ -37,9 +48,6 @@ marking_more old from upto v row i l m =
       same = length-set row i v ∙ m.same;
       done = rw (n, replicate_more (i - from) v, sets-append old from (replicate (i - from) v) (v ∷ []), p, ← m.done);
     }
-
-pub marking_done : (old : List ℕ) (from upto v : ℕ) (row : List ℕ) (i : ℕ) → upto ≤ i → Marking old from upto v row i → row ≡ sets old from (replicate (upto - from) v)
-marking_done old from upto v row i l m = let e : i ≡ upto = omega (arith, m.within) in rw e at m.done
 
 -- ---- the intervals passed over
 

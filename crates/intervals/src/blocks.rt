@@ -16,13 +16,7 @@ pub struct Booked {
 fn has_room(n: usize, a: usize, b: usize, c: usize) -> bool
     ensures { result ≡ room_for n a b c }
 {
-    if a < n {
-        return false;
-    }
-    if b < n {
-        return false;
-    }
-    n <= c
+    n <= a && n <= b && n <= c
 }
 
 // The book is filled only where all three of its runs have room.
@@ -65,10 +59,7 @@ pub fn over_blocks(
             &tall[0..n],
             marks,
         );
-        return Booked {
-            intervals: n,
-            run: run,
-        };
+        return Booked { intervals: n, run };
     }
     let none = Run {
         kept: Kept::new(),

@@ -3,11 +3,11 @@ ghost use Rattle.std.specs.Prelude.{◌≡◌, [], ◌+◌, ◌≤◌, ◌<◌, 
 ghost use Rattle.model.specs.Limits.{max_docid};
 ghost use Rattle.rank.specs.Rank.{kth};
 ghost use Rattle.rank.specs.Keep.{kept_of};
-ghost use Rattle.opening.specs.Table.{from_of};
 ghost use Rattle.intervals.specs.Run.{last_at, Begins, Idles, Runnable, Runs};
 
 use rank::keep::Kept;
 use scan::head::Head;
+use std::array;
 
 // What the search found: the hits kept, how many blocks were opened, and the least offset of a wrong body's tag where it stopped;
 // the shelf's length where it did not stop.
@@ -18,27 +18,13 @@ pub struct Run {
     pub wrong: usize,
 }
 
-// Where a list's blocks begin.
-fn from_of(ends: &[usize], t: usize) -> usize
-    requires { t ≤ length ends.now }
-    ensures { result ≡ from_of ends.now t }
-{
-    if t == 0 {
-        return 0;
-    }
-    ends[t - 1]
-}
-
-// Every list's place before its first block.
+// Every list's place before its first block: the first at 0, each other where the list before it ends.
 fn begin(ends: &[usize], ats: &mut [usize])
     requires { (length ends.now ≡ 8) × (length ats.old ≡ 8) }
     ensures { Begins ends.now ats.new 8 }
 {
-    let mut t: usize = 0;
-    while t < 8 {
-        ats[t] = from_of(ends, t);
-        t += 1;
-    }
+    ats[0] = 0;
+    ats[1..8].copy_from_slice(&ends[..7]);
 }
 
 // Every list at its end: before the first interval no block is read.
@@ -46,15 +32,7 @@ fn idle(weights: &[u8]) -> [Head; 8]
     requires { length weights.now ≡ 8 }
     ensures { Idles weights.now result 8 }
 {
-    let none = opening::enter::ended(0, 0);
-    let mut heads = [none; 8];
-    let mut t: usize = 0;
-    while t < 8 {
-        let h = opening::enter::ended(weights[t], t);
-        heads[t] = h;
-        t += 1;
-    }
-    heads
+    array::from_fn(|t| opening::enter::ended(weights[t], t))
 }
 
 // The last docid of an interval.
@@ -74,8 +52,7 @@ fn kth_of(kept: Kept, k: usize) -> u32
     requires { (kept.n ≤ k) × (k ≤ 100) × (0 < k) }
     ensures { result ≡ kth k (kept_of kept) }
 {
-    let scores = kept.scores;
-    rank::keep::kth_in(&scores, kept.n, k)
+    rank::keep::kth_in(&kept.scores, kept.n, k)
 }
 
 // Each interval in turn, from the blocks that the walk has seen to.
@@ -133,11 +110,11 @@ pub(crate) fn over_intervals(
         let wrong = turn.wrong;
         if wrong < none {
             marks[i] = 2;
-            crate::book::mark_all(marks, i + 1, n, 3);
+            marks[i + 1..n].fill(3);
             return Run {
                 kept: Kept::new(),
                 opened: 0,
-                wrong: wrong,
+                wrong,
             };
         }
         heads = turn.heads;
@@ -148,8 +125,8 @@ pub(crate) fn over_intervals(
         i = crate::book::skip_shut(ceilings, n, kth, i + 1, marks);
     }
     Run {
-        kept: kept,
-        opened: opened,
+        kept,
+        opened,
         wrong: none,
     }
 }

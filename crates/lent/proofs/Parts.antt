@@ -10,10 +10,8 @@ use Rattle.wire.specs.Field.{whole}
 use Rattle.wire.proofs.Fields.{whole-size}
 use Rattle.block.specs.Body.{is_strip, tag_of}
 use Rattle.shelf.specs.Walk.{Block, Listing, bodies}
-use Rattle.lookup.specs.Find.{found, shown_of}
+use Rattle.lookup.specs.Find.{found, placed}
 use Rattle.lookup.specs.Show.{bodies_from, has_block, part_at, part_past, body_shown, block_of}
-use Rattle.lookup.specs.declared.find.Shown.{Shown}
-use Rattle.lookup.specs.declared.find.Shown.TheVariants as shown
 use Rattle.lookup.proofs.Showings.{shown-body, shown-bytes}
 use Rattle.lent.specs.View.{Inside, bytes_of}
 
@@ -29,14 +27,14 @@ past-inside : (s : List ℕ) (o : Outcome ℕ) → Inside s (part_past s o)
 past-inside s (done b) = part-inside s b
 past-inside s (refused n o) = tt
 
-pub body-inside : (s : List ℕ) (p : Shown) (j : ℕ) → Inside s (body_shown s p j)
+pub body-inside : (s : List ℕ) (p : Outcome Place) (j : ℕ) → Inside s (body_shown s p j)
 unfolding body_shown
-body-inside s (shown.Refused n o) j = tt
-body-inside s (shown.List p) j =
+body-inside s (refused n o) j = tt
+body-inside s (done p) j =
     split (has_block s p j) (λ e. rw e (past-inside s (bodies j (bodies_from p) (drop (bodies_from p) s)))) (λ e. rw e tt)
 
 -- of a list that was found, the bytes shown are the block's body
-pub body_bytes_lem : (t : ℕ) (s : List ℕ) (l : Listing) (j : ℕ) (b : Block) → found t s ≡ done l → block_of l.blocks j ≡ done b → bytes_of s (body_shown s (shown_of (found t s)) j) ≡ b.body
+pub body_bytes_lem : (t : ℕ) (s : List ℕ) (l : Listing) (j : ℕ) (b : Block) → found t s ≡ done l → block_of l.blocks j ≡ done b → bytes_of s (body_shown s (placed (found t s)) j) ≡ b.body
 body_bytes_lem t s l j b e q =
     let n : b.body_at + 3 + length b.body - (b.body_at + 3) ≡ length b.body = omega arith in
     rw (shown-body t s l e j, q, n) (shown-bytes t s l e j b q)

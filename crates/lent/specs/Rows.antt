@@ -1,5 +1,5 @@
 -- "Hits are written into lent rows, a docid beside its score; rows past the last hit are not touched". Assumes nothing.
-use Rattle.std.specs.Prelude.{ℕ, ◌≤◌, min, ◌≡◌, List, [], map, ◌++◌, length, drop, get_or}
+use Rattle.std.specs.Prelude.{ℕ, ◌≤◌, min, ◌≡◌, List, [], map, ◌++◌, length, drop}
 use Rattle.model.specs.Limits.{max_k}
 use Rattle.model.specs.Outcome.{Outcome, refused, done}
 use Rattle.rank.specs.Rank as rank
@@ -45,9 +45,6 @@ pub record Rowed (o : Outcome (List rank.Hit)) (n at c : ℕ) (old new : List Hi
   pub rows : new ≡ with_hits (hits_of o) old
 
 -- ---- the contracts behind it
-
-abbrev pub hit_at : Kept → ℕ → Hit
-hit_at t i = record { docid = get_or t.docids i 0; score = get_or t.scores i 0 }
 
 -- how many hits there is room for
 pub record Counts (t : Kept) (m n : ℕ) : Type 0 where

@@ -5,7 +5,7 @@ ghost use Rattle.rank.specs.Keep.{kept_of};
 ghost use Rattle.exhaustive.specs.Exhaustive.{rank_all};
 ghost use Rattle.pruned.specs.Pruned.{searched};
 ghost use Rattle.lent.specs.Search.{Booked, Searched};
-ghost use Rattle.lent.specs.Rows.{hit_at, with_hits, Counts, number_in, offset_in, Tells, Rowed};
+ghost use Rattle.lent.specs.Rows.{with_hits, Counts, number_in, offset_in, Tells, Rowed};
 
 use exhaustive::all::Verdict;
 use rank::keep::Kept;
@@ -18,29 +18,11 @@ pub struct Hit {
     pub score: u32,
 }
 
-// The hit at a place of the keeper.
-fn hit_at(kept: Kept, i: usize) -> Hit
-    requires { i < 100 }
-    ensures { result ≡ hit_at kept i }
-{
-    Hit {
-        docid: kept.docids[i],
-        score: kept.scores[i],
-    }
-}
-
 // How many of a keeper's hits there is room for. (A keeper's two runs end at 100.)
 fn held(kept: Kept, room: usize) -> usize
     ensures { Counts kept room result }
 {
-    let mut n = kept.n;
-    if 100 < n {
-        n = 100;
-    }
-    if room < n {
-        n = room;
-    }
-    n
+    kept.n.min(100).min(room)
 }
 
 // The keeper's hits are written into the first rows, as many as there are rows; the rows past them are not touched.
@@ -48,10 +30,11 @@ pub fn fill<'a>(rows: &'a mut [Hit], kept: Kept)
     ensures { rows.new ≡ with_hits (take (length rows.old) (kept_of kept)) rows.old }
 {
     let n = held(kept, rows.len());
-    let mut i: usize = 0;
-    while i < n {
-        rows[i] = hit_at(kept, i);
-        i += 1;
+    for (i, row) in rows[..n].iter_mut().enumerate() {
+        *row = Hit {
+            docid: kept.docids[i],
+            score: kept.scores[i],
+        };
     }
 }
 

@@ -1,49 +1,48 @@
 -- The writer's refusals, by the tests that the code makes: the first posting at fault, then the answer case by case. Assumes nothing.
-use Prim.Native.Nat.{ℕ, suc, ◌+◌, ◌≤◌, ◌<◌, min, max}
+use Prim.Native.Nat.{ℕ, suc, ◌≤◌, ◌<◌, min, max}
 use native.Mathlib.Omega.{arith}
 use mathlib.Core.Path.{◌≡◌, refl, ap, ◌∙◌}
 use mathlib.Core.Bool.{Bool, false}
 use mathlib.Core.List.{List, [], ◌∷◌, ◌++◌}
 use borrow.Author.Tests.{lt-ltb, le-ltb, ltb-true, le-leb, lt-leb, leb-true, eq-eqb, ne_eqb}
 use lib.Dec.{leb, ltb}
-use lib.ListN.{length, get_or, drop}
+use lib.ListN.{length, drop}
 use Rattle.model.specs.Limits.{max_docid, max_score, max_postings}
 use Rattle.model.specs.Outcome.{Outcome, refused, done}
 use Rattle.model.specs.Post.{Post, post, postings, Rising, Scored, last_doc}
 use Rattle.model.specs.Runs.{Stored}
 use Rattle.model.proofs.Lists.{split, and-true, and-false}
-use Rattle.model.proofs.Posts.{from, from_cons, from_end, count_of, rising-last}
+use Rattle.model.proofs.Posts.{count_of, rising-last}
 use Rattle.model.proofs.Storing.{stored-holds}
 use Rattle.list.specs.Answer.{Gives}
 use Rattle.list.specs.Write.{list_bytes, may_follow, fault_at, write_list, Paired}
-use Rattle.list.specs.declared.answer.Answer.TheVariants.{Done, Refused}
+use Rattle.std.specs.Prelude.{Ok, Err}
+use Rattle.model.specs.Refusal.{number}
+use Rattle.model.specs.declared.refusal.Refusal.{Refusal}
 
--- ---- the posting at index i, after docid p
+-- ---- a posting after docid p, and those after it
 
-module _ (p i : ℕ) (ds ss : List ℕ) (e : length ds ≡ length ss) (h : i < length ds) where
-  fault-here : may_follow p (post (get_or ds i 0) (get_or ss i 0)) ≡ false → fault_at p (from i ds ss) ≡ 0
+module _ (p d w : ℕ) (ps : List Post) where
+  fault-here : may_follow p (post d w) ≡ false → fault_at p (post d w ∷ ps) ≡ 0
   unfolding fault_at
-  fault-here t = ap (fault_at p) (from_cons i ds ss e h) ∙ rw t
+  fault-here t = rw t
 
-  pub fault_low : get_or ds i 0 ≤ p → fault_at p (from i ds ss) ≡ 0
-  fault_low l = fault-here (rw (le-ltb p (get_or ds i 0) l))
+  pub fault_low : d ≤ p → fault_at p (post d w ∷ ps) ≡ 0
+  fault_low l = fault-here (rw (le-ltb p d l))
 
-  pub fault_high : max_docid < get_or ds i 0 → fault_at p (from i ds ss) ≡ 0
-  fault_high l = fault-here (rw (lt-leb (get_or ds i 0) 16777215 l) (and-false (ltb p (get_or ds i 0))))
+  pub fault_high : max_docid < d → fault_at p (post d w ∷ ps) ≡ 0
+  fault_high l = fault-here (rw (lt-leb d 16777215 l) (and-false (ltb p d)))
 
-  pub fault-score : get_or ss i 0 ≡ 0 → fault_at p (from i ds ss) ≡ 0
-  fault-score z = fault-here (rw (le-ltb 0 (get_or ss i 0) (omega arith), and-false (leb (get_or ds i 0) 16777215)) (and-false (ltb p (get_or ds i 0))))
+  pub fault-score : w ≡ 0 → fault_at p (post d w ∷ ps) ≡ 0
+  fault-score z = fault-here (rw (le-ltb 0 w (omega arith), and-false (leb d 16777215)) (and-false (ltb p d)))
 
-  pub fault-on : p < get_or ds i 0 → get_or ds i 0 ≤ max_docid → 0 < get_or ss i 0 → get_or ss i 0 ≤ max_score →
-      fault_at p (from i ds ss) ≡ suc (fault_at (get_or ds i 0) (from (i + 1) ds ss))
+  pub fault-on : p < d → d ≤ max_docid → 0 < w → w ≤ max_score → fault_at p (post d w ∷ ps) ≡ suc (fault_at d ps)
   unfolding fault_at
-  fault-on a b c d =
-      ap (fault_at p) (from_cons i ds ss e h)
-      ∙ rw (lt-ltb p (get_or ds i 0) a, le-leb (get_or ds i 0) 16777215 b, lt-ltb 0 (get_or ss i 0) c, le-leb (get_or ss i 0) 65535 d)
+  fault-on a b c e = rw (lt-ltb p d a, le-leb d 16777215 b, lt-ltb 0 w c, le-leb w 65535 e)
 
-pub fault-end : (p i : ℕ) (ds ss : List ℕ) → length ds ≤ i → fault_at p (from i ds ss) ≡ 0
+pub fault-end : (p : ℕ) → fault_at p [] ≡ 0
 unfolding fault_at
-fault-end p i ds ss h = rw (from_end i ds ss h)
+fault-end p = refl
 
 -- ---- postings of which none is at fault, and only those, may be written
 
@@ -133,10 +132,10 @@ module _ (strip : Bool) (t : ℕ) (ds ss : List ℕ) (room : ℕ) where
 
 -- ---- what is answered, and what the buffer holds
 
-pub gives-refused : {o : Outcome (List ℕ)} {n k : ℕ} (l : List ℕ) → o ≡ refused n k → Gives o l l (Refused n k)
-gives-refused l e = record { answers = rw e; holds = rw e }
+pub gives-refused : {o : Outcome (List ℕ)} (r : Refusal) (l : List ℕ) → o ≡ refused (number r.fault) r.offset → Gives o l l (Err r)
+gives-refused r l e = record { answers = rw e; holds = rw e }
 
-pub gives-done : {o : Outcome (List ℕ)} {l m v : List ℕ} {r : ℕ} → o ≡ done v → length v ≤ length l → Stored l m 0 r v → Gives o l m (Done r)
+pub gives-done : {o : Outcome (List ℕ)} {l m v : List ℕ} {r : ℕ} → o ≡ done v → length v ≤ length l → Stored l m 0 r v → Gives o l m (Ok r)
 gives-done {o} {l} {m} {v} {r} e h s =
     let w = stored-holds h s in
     let q : m ≡ v ++ drop (length v) l = w.whole ∙ ap (λ (k : ℕ). v ++ drop k l) w.count in

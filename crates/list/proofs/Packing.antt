@@ -1,18 +1,25 @@
 -- The writer's blocks one by one, out of two runs, and what they take. Assumes nothing.
-use Prim.Native.Nat.{ℕ, zero, suc, ◌+◌, ◌*◌, ◌-◌, ◌/◌, ◌^◌, ◌≤◌, ◌<◌, min}
+use denote.Ref.{Bor}
+use Rattle.std.proofs.Common.{Some, None}
+use Rattle.std.specs.Slice.Iter.{chunks_rest, chunks_size, chunks_steps}
+use Rattle.std.specs.declared.slice.Chunks.{Chunks}
+use Rattle.std.specs.declared.iter.Zip.{Zip}
+use Rattle.std.specs.Iterator.Adapters.{zip_first, zip_second}
+use mathlib.Core.Logic.{◌⊎◌, inl, inr}
+use Prim.Native.Nat.{ℕ, zero, suc, ◌+◌, ◌*◌, ◌/◌, ◌^◌, ◌≤◌, ◌<◌, min}
 use native.Mathlib.Omega.{arith}
 use mathlib.Core.Path.{◌≡◌, refl, sym, ap, ap₂, ◌∙◌}
 use mathlib.Core.Bool.{Bool}
-use mathlib.Core.List.{List, [], ◌∷◌, ◌++◌}
+use mathlib.Core.List.{List, [], ◌∷◌, ◌++◌, append-nil}
 use borrow.Author.Tests.{leb-true, leb-false}
 use lib.Dec.{leb}
 use lib.ListN.{length, take, drop, length-append, length-take, length-drop, take-append-drop, drop_of_length-le}
-use lib.Seq.{take_all, drop-drop, length-take-le}
+use lib.Seq.{take_all, take_at, drop_at}
 use Rattle.model.specs.Limits.{max_docid, per_block, per_list, max_postings}
 use Rattle.model.specs.Post.{Post, post, postings, Rising, last_doc, Even}
 use Rattle.model.specs.Runs.{Stored}
 use Rattle.model.proofs.Lists.{split}
-use Rattle.model.proofs.Posts.{from, from_end, count_of, rising-last, last-append, rising-append}
+use Rattle.model.proofs.Posts.{count_of, rising-last, last-append, rising-append}
 use Rattle.model.proofs.Storing.{Rest, rest-room, rest-turn}
 use Rattle.wire.specs.Number.{be}
 use Rattle.wire.specs.Field.{field_bytes}
@@ -41,9 +48,10 @@ packed-next [] h k = absurd (omega arith)
 packed-next (p ∷ ps) h k =
     ap (λ (bs : List (List Post)). (p ∷ take 99 ps) ∷ bs) (sym (packed_more 63 (drop 99 ps) (omega (arith, length-drop 99 ps))))
 
-pub packed_none : (a : ℕ) (ds ss : List ℕ) → length ds ≤ a → packed 64 (from a ds ss) ≡ []
+pub packed_none : (n : ℕ) → packed n [] ≡ []
 unfolding packed
-packed_none a ds ss h = rw (from_end a ds ss h)
+packed_none zero = refl
+packed_none (suc n) = refl
 
 pub packed-count : (n : ℕ) (ps : List Post) → length ps ≤ 100 * n → length (packed n ps) ≡ (length ps + 99) / 100
 unfolding packed
@@ -89,73 +97,114 @@ front k ps h =
     let l : last_doc (last_doc 0 (take k ps)) (drop k ps) ≡ last_doc 0 ps = sym (last-append 0 (take k ps) (drop k ps)) ∙ ap (last_doc 0) e in
     (q.0, omega (arith, rising-last (last_doc 0 (take k ps)) (drop k ps) q.1))
 
--- ---- the block from a to e, where e is 100 further, or the end
+-- ---- a run in pieces of 100: the first, x, and what comes after it, e
 
-module _ (a e : ℕ) (l : List ℕ) (h : a < length l) (q : e ≡ min (a + 100) (length l)) where
-  part_100 : take (e - a) (drop a l) ≡ take 100 (drop a l)
-  part_100 =
-      split (leb (length l) (a + 100))
-      (λ t. let w : length l ≤ a + 100 = leb-true _ _ t in
-      take_all (e - a) (drop a l) (omega (arith, length-drop a l)) ∙ sym (take_all 100 (drop a l) (omega (arith, length-drop a l))))
-      (λ t. let w : a + 100 < length l = leb-false _ _ t in
-      let k : e - a ≡ 100 = omega arith in
-      ap (λ (n : ℕ). take n (drop a l)) k)
+piece : (l x e : List ℕ) → l ≡ x ++ e → length x ≡ min 100 (length l) → (x ≡ take 100 l) × (e ≡ drop 100 l)
+piece l x e q n =
+    let m : length l ≡ length x + length e = ap length q ∙ length-append x e in
+    split (leb 100 (length l))
+    (λ t. let w : 100 ≤ length l = leb-true _ _ t in
+    let k : 100 ≡ length x = omega arith in
+    rw q (sym (take_at x e 100 (sym k)), sym (drop_at x e 100 (sym k))))
+    (λ t. let w : length l < 100 = leb-false _ _ t in
+    let k : length e ≡ 0 = omega arith in
+    let z : e ≡ [] = length_zero e k in
+    let s : x ≡ l = sym (append-nil x) ∙ ap (λ (y : List ℕ). x ++ y) (sym z) ∙ sym q in
+    (s ∙ sym (take_all 100 l (omega arith)), z ∙ sym (drop_of_length-le l {i = 100} (omega arith))))
+  where
+    length_zero : (y : List ℕ) → length y ≡ 0 → y ≡ []
+    length_zero [] h = refl
+    length_zero (a ∷ y) h = absurd (omega arith)
 
-  rest_100 : drop e l ≡ drop 100 (drop a l)
-  rest_100 =
-      split (leb (length l) (a + 100))
-      (λ t. let w : length l ≤ a + 100 = leb-true _ _ t in
-      drop_of_length-le l {i = e} (omega arith) ∙ sym (drop_of_length-le (drop a l) {i = 100} (omega (arith, length-drop a l))))
-      (λ t. let w : a + 100 < length l = leb-false _ _ t in
-      let k : e ≡ a + 100 = omega arith in
-      ap (λ (n : ℕ). drop n l) k ∙ sym (drop-drop 100 a l))
+-- what is left of two runs that may be written: perhaps nothing
+pub record Left (ds ss : List ℕ) : Type 0 where
+  pub same : length ds ≡ length ss
+  pub few : length ds ≤ max_postings
+  pub rise : Rising 0 (postings ds ss)
+  pub last : last_doc 0 (postings ds ss) ≤ max_docid
 
-abbrev pub part : (a e : ℕ) → List ℕ → List ℕ
-part a e l = take (e - a) (drop a l)
+pub left : (ds ss : List ℕ) → Paired ds ss → Left ds ss
+left ds ss p = record { same = p.same; few = omega (arith, p.may.few, count_of ds ss p.same); rise = p.may.rise; last = p.may.last }
 
-abbrev pub block_at : (a e : ℕ) (ds ss : List ℕ) → List Post
-block_at a e ds ss = postings (part a e ds) (part a e ss)
+-- what a turn of a loop over the blocks needs of the block `xs` beside `ys`, after which `es` beside `fs` are left
+pub record Turn (ds ss xs ys es fs : List ℕ) : Type 0 where
+  pub next : packed per_list (postings ds ss) ≡ postings xs ys ∷ packed per_list (postings es fs)
+  pub some : 0 < length xs
+  pub few : length xs ≤ per_block
+  pub even : Even 0 xs ys
+  pub last : last_doc 0 (postings xs ys) ≤ max_docid
+  pub rest : Left es fs
 
--- what a turn of a loop over the blocks needs of the block that begins at a
-pub record Turn (ds ss : List ℕ) (a e : ℕ) : Type 0 where
-  pub next : packed per_list (from a ds ss) ≡ block_at a e ds ss ∷ packed per_list (from e ds ss)
-  pub onward : a < e
-  pub within : e ≤ length ds
-  pub some : 0 < length (part a e ds)
-  pub few : length (part a e ds) ≤ per_block
-  pub even : Even 0 (part a e ds) (part a e ss)
-  pub last : last_doc 0 (block_at a e ds ss) ≤ max_docid
-
-pub turn : (ds ss : List ℕ) (a e : ℕ) → Paired ds ss → a < length ds → e ≡ min (a + per_block) (length ds) → Turn ds ss a e
-turn ds ss a e p h m =
+pub turn : (ds ss xs ys es fs : List ℕ) → Left ds ss → 0 < length ds → ds ≡ xs ++ es → length xs ≡ min per_block (length ds) → ss ≡ ys ++ fs → length ys ≡ min per_block (length ss) → Turn ds ss xs ys es fs
+turn ds ss xs ys es fs p h q n r m =
     let s = p.same in
-    let m2 : e ≡ min (a + 100) (length ss) = omega arith in
-    let h2 : a < length ss = omega arith in
-    let ev : length (drop a ds) ≡ length (drop a ss) = omega (arith, length-drop a ds, length-drop a ss) in
-    let n : length (from a ds ss) ≡ length ds - a = count_of (drop a ds) (drop a ss) ev ∙ length-drop a ds in
+    let x = piece ds xs es q n in
+    let y = piece ss ys fs r m in
     let all : length (postings ds ss) ≡ length ds = count_of ds ss s in
-    let t : block_at a e ds ss ≡ take 100 (from a ds ss) = rw (part_100 a e ds h m, part_100 a e ss h2 m2) (postings-take 100 (drop a ds) (drop a ss)) in
-    let d : from e ds ss ≡ drop 100 (from a ds ss) = rw (rest_100 a e ds h m, rest_100 a e ss h2 m2) (postings-drop 100 (drop a ds) (drop a ss) ev) in
-    let g : from a ds ss ≡ drop a (postings ds ss) = postings-drop a ds ss s in
-    let r : Rising 0 (from a ds ss) = rw g (rising-drop a 0 (postings ds ss) p.may.rise) in
-    let f = front 100 (from a ds ss) r in
-    let c : length (part a e ds) ≡ e - a = length-take-le (e - a) (drop a ds) (omega (arith, length-drop a ds)) in
-    let c2 : length (part a e ss) ≡ e - a = length-take-le (e - a) (drop a ss) (omega (arith, length-drop a ss)) in
-    let k : last_doc 0 (from a ds ss) ≤ last_doc 0 (postings ds ss) = rw g (last-drop a 0 (postings ds ss)) in
+    let t : postings xs ys ≡ take 100 (postings ds ss) = rw (x.0, y.0) (postings-take 100 ds ss) in
+    let d : postings es fs ≡ drop 100 (postings ds ss) = rw (x.1, y.1) (postings-drop 100 ds ss s) in
+    let f = front 100 (postings ds ss) p.rise in
     record {
-      next = packed-next (from a ds ss) (omega arith) (omega (arith, p.may.few)) ∙ ap₂ (λ (b : List Post) (x : List Post). b ∷ packed 64 x) (sym t) (sym d);
-      onward = omega arith;
-      within = omega arith;
+      next = packed-next (postings ds ss) (omega arith) (omega (arith, p.few)) ∙ ap₂ (λ (b : List Post) (z : List Post). b ∷ packed 64 z) (sym t) (sym d);
       some = omega arith;
       few = omega arith;
-      even = record { same = c ∙ sym c2; rise = rw t f.0 };
-      last = rw t (omega (arith, f.1, p.may.last));
+      even = record { same = omega arith; rise = rw t f.0 };
+      last = rw t (omega (arith, f.1, p.last));
+      rest = record {
+        same = omega (arith, ap length q, ap length r, length-append xs es, length-append ys fs);
+        few = omega (arith, ap length q, length-append xs es, p.few);
+        rise = rw d (rising-drop 100 0 (postings ds ss) p.rise);
+        last = rw d (omega (arith, last-drop 100 0 (postings ds ss), p.last));
+      };
     }
+
+none_in : (xs ys : List ℕ) → (length xs ≡ 0) ⊎ (length ys ≡ 0) → postings xs ys ≡ []
+none_in [] ys h = refl
+none_in (x ∷ xs) [] h = refl
+none_in (x ∷ xs) (y ∷ ys) (inl e) = absurd (omega arith)
+none_in (x ∷ xs) (y ∷ ys) (inr e) = absurd (omega arith)
+
+-- the same where the two runs are cut into pieces side by side
+abbrev pub Pairs : Type 0
+Pairs = Zip (Chunks ℕ) (Chunks ℕ)
+
+-- the docids and the scores that are left
+abbrev pub docs_left : Pairs → List ℕ
+docs_left z = chunks_rest (zip_first z)
+
+abbrev pub scores_left : Pairs → List ℕ
+scores_left z = chunks_rest (zip_second z)
+
+abbrev pub posts_left : Pairs → List Post
+posts_left z = postings (docs_left z) (scores_left z)
+
+pub record Cut (z : Pairs) : Type 0 where
+  pub docs : chunks_size (zip_first z) ≡ 100
+  pub scores : chunks_size (zip_second z) ≡ 100
+  pub left : Left (docs_left z) (scores_left z)
+
+pub cut : (z : Pairs) (ds ss : List ℕ) → chunks_size (zip_first z) ≡ 100 → chunks_size (zip_second z) ≡ 100 → docs_left z ≡ ds → scores_left z ≡ ss → Paired ds ss → Cut z
+cut z ds ss m n e f p = record { docs = m; scores = n; left = rw (e, f) (left ds ss p) }
+
+module _ (z n : Pairs) (x y : Bor (List ℕ)) (p : Cut z) (s : chunks_steps (zip_first z) (Some x) (zip_first n) × chunks_steps (zip_second z) (Some y) (zip_second n)) where
+  pub cut_turn : Turn (docs_left z) (scores_left z) x.now y.now (docs_left n) (scores_left n)
+  cut_turn =
+      let d : length x.now ≡ min 100 (length (docs_left z)) = omega (arith, p.docs, s.0) in
+      let w : length y.now ≡ min 100 (length (scores_left z)) = omega (arith, p.scores, s.1) in
+      turn (docs_left z) (scores_left z) x.now y.now (docs_left n) (scores_left n) p.left (omega (arith, s.0)) s.0.1.0 d s.1.1.0 w
+
+  pub cut_rest : Cut n
+  cut_rest = record { docs = s.0.0 ∙ p.docs; scores = s.1.0 ∙ p.scores; left = cut_turn.rest }
+
+-- one run has no more, so neither has
+pub cut_none : (z : Pairs) → ((u : Chunks ℕ) × chunks_steps (zip_first z) None u) ⊎ ((u : Chunks ℕ) × chunks_steps (zip_second z) None u) → posts_left z ≡ []
+cut_none z (inl h) = none_in (docs_left z) (scores_left z) (inl h.1.1.0)
+cut_none z (inr h) = none_in (docs_left z) (scores_left z) (inr h.1.1.0)
 
 module _ (strip : Bool) where
   -- its summary's numbers fit their bytes
-  pub fits-turn : {ds ss : List ℕ} {a e : ℕ} {m : Summary} → Turn ds ss a e → m ≡ summary_of strip (block_at a e ds ss) → (m.least < 256 ^ 3) × (m.greatest < 256 ^ 3)
-  fits-turn {ds} {ss} {a} {e} {m} t q = go (block_at a e ds ss) q t.even.rise t.last
+  pub fits-turn : {ds ss xs ys es fs : List ℕ} {m : Summary} → Turn ds ss xs ys es fs → m ≡ summary_of strip (postings xs ys) → (m.least < 256 ^ 3) × (m.greatest < 256 ^ 3)
+  fits-turn {ds} {ss} {xs} {ys} {es} {fs} {m} t q = go (postings xs ys) q t.even.rise t.last
     where
       go : (ps : List Post) → m ≡ summary_of strip ps → Rising 0 ps → last_doc 0 ps ≤ 16777215 → (m.least < 256 ^ 3) × (m.greatest < 256 ^ 3)
       go [] q r l = (omega (arith, ap (λ (x : Summary). x.least) q), omega (arith, ap (λ (x : Summary). x.greatest) q))
@@ -163,56 +212,56 @@ module _ (strip : Bool) where
 
   -- ---- the bytes of the first block's part, and of the parts after it
 
-  pub sums-turn : {ds ss : List ℕ} {a e : ℕ} → Turn ds ss a e →
-      sums_bytes strip (packed per_list (from a ds ss)) ≡ sum_bytes (summary_of strip (block_at a e ds ss)) ++ sums_bytes strip (packed per_list (from e ds ss))
+  pub sums-turn : {ds ss xs ys es fs : List ℕ} → Turn ds ss xs ys es fs →
+      sums_bytes strip (packed per_list (postings ds ss)) ≡ sum_bytes (summary_of strip (postings xs ys)) ++ sums_bytes strip (packed per_list (postings es fs))
   unfolding sums_bytes
   sums-turn t = ap (sums_bytes strip) t.next
 
-  pub bodies-turn : {ds ss : List ℕ} {a e : ℕ} → Turn ds ss a e →
-      bodies_bytes strip (packed per_list (from a ds ss)) ≡ field_bytes (tag_of strip) (body_bytes strip (block_at a e ds ss)) ++ bodies_bytes strip (packed per_list (from e ds ss))
+  pub bodies-turn : {ds ss xs ys es fs : List ℕ} → Turn ds ss xs ys es fs →
+      bodies_bytes strip (packed per_list (postings ds ss)) ≡ field_bytes (tag_of strip) (body_bytes strip (postings xs ys)) ++ bodies_bytes strip (packed per_list (postings es fs))
   unfolding bodies_bytes
   bodies-turn t = ap (bodies_bytes strip) t.next
 
   -- there is room for the first
-  pub sums-room : {ds ss l m v : List ℕ} {a e at j : ℕ} → Turn ds ss a e → Rest l m at j v (sums_bytes strip (packed per_list (from a ds ss))) → at + length v ≤ length l → j + 12 ≤ length m
-  sums-room {ds} {ss} {l} {m} {v} {a} {e} t r h =
-      let b = summary_of strip (block_at a e ds ss) in
-      omega (arith, rest-room (sum_bytes b) (sums_bytes strip (packed 64 (from e ds ss))) (sums-turn t) r h, sum-size b)
+  pub sums-room : {ds ss xs ys es fs l m v : List ℕ} {at j : ℕ} → Turn ds ss xs ys es fs → Rest l m at j v (sums_bytes strip (packed per_list (postings ds ss))) → at + length v ≤ length l → j + 12 ≤ length m
+  sums-room {ds} {ss} {xs} {ys} {es} {fs} {l} {m} {v} t r h =
+      let b = summary_of strip (postings xs ys) in
+      omega (arith, rest-room (sum_bytes b) (sums_bytes strip (packed 64 (postings es fs))) (sums-turn t) r h, sum-size b)
 
-  pub bodies-room : {ds ss l m v : List ℕ} {a e at j : ℕ} → Turn ds ss a e → Rest l m at j v (bodies_bytes strip (packed per_list (from a ds ss))) → at + length v ≤ length l →
-      j + length (field_bytes (tag_of strip) (body_bytes strip (block_at a e ds ss))) ≤ length m
-  bodies-room {ds} {ss} {l} {m} {v} {a} {e} t r h =
-      rest-room (field_bytes (tag_of strip) (body_bytes strip (block_at a e ds ss))) (bodies_bytes strip (packed 64 (from e ds ss))) (bodies-turn t) r h
+  pub bodies-room : {ds ss xs ys es fs l m v : List ℕ} {at j : ℕ} → Turn ds ss xs ys es fs → Rest l m at j v (bodies_bytes strip (packed per_list (postings ds ss))) → at + length v ≤ length l →
+      j + length (field_bytes (tag_of strip) (body_bytes strip (postings xs ys))) ≤ length m
+  bodies-room {ds} {ss} {xs} {ys} {es} {fs} {l} {m} {v} t r h =
+      rest-room (field_bytes (tag_of strip) (body_bytes strip (postings xs ys))) (bodies_bytes strip (packed 64 (postings es fs))) (bodies-turn t) r h
 
   -- and once it is stored the rest is to come
-  pub bodies-on : {ds ss l m o v : List ℕ} {a e at j r : ℕ} → Turn ds ss a e → Rest l m at j v (bodies_bytes strip (packed per_list (from a ds ss))) →
-      Stored m o j r (field_bytes (tag_of strip) (body_bytes strip (block_at a e ds ss))) → Rest l o at r v (bodies_bytes strip (packed per_list (from e ds ss)))
-  bodies-on {ds} {ss} {l} {m} {o} {v} {a} {e} t w s =
-      rest-turn (field_bytes (tag_of strip) (body_bytes strip (block_at a e ds ss))) (bodies_bytes strip (packed 64 (from e ds ss))) (bodies-turn t) w s
+  pub bodies-on : {ds ss xs ys es fs l m o v : List ℕ} {at j r : ℕ} → Turn ds ss xs ys es fs → Rest l m at j v (bodies_bytes strip (packed per_list (postings ds ss))) →
+      Stored m o j r (field_bytes (tag_of strip) (body_bytes strip (postings xs ys))) → Rest l o at r v (bodies_bytes strip (packed per_list (postings es fs)))
+  bodies-on {ds} {ss} {xs} {ys} {es} {fs} {l} {m} {o} {v} t w s =
+      rest-turn (field_bytes (tag_of strip) (body_bytes strip (postings xs ys))) (bodies_bytes strip (packed 64 (postings es fs))) (bodies-turn t) w s
 
-  pub sums-end : (a : ℕ) (ds ss : List ℕ) → length ds ≤ a → sums_bytes strip (packed per_list (from a ds ss)) ≡ []
+  pub sums-end : sums_bytes strip (packed per_list []) ≡ []
   unfolding sums_bytes
-  sums-end a ds ss h = ap (sums_bytes strip) (packed_none a ds ss h)
+  sums-end = ap (sums_bytes strip) (packed_none 64)
 
-  pub bodies-end : (a : ℕ) (ds ss : List ℕ) → length ds ≤ a → bodies_bytes strip (packed per_list (from a ds ss)) ≡ []
+  pub bodies-end : bodies_bytes strip (packed per_list []) ≡ []
   unfolding bodies_bytes
-  bodies-end a ds ss h = ap (bodies_bytes strip) (packed_none a ds ss h)
+  bodies-end = ap (bodies_bytes strip) (packed_none 64)
 
   -- ---- how many bytes
 
-  -- of the blocks from posting a on: a summary is 12 bytes
-  abbrev pub size_from : (a : ℕ) (ds ss : List ℕ) → ℕ
-  size_from a ds ss = 12 * length (packed per_list (from a ds ss)) + length (bodies_bytes strip (packed per_list (from a ds ss)))
+  -- of the blocks of some postings: a summary is 12 bytes
+  abbrev pub size_of : List Post → ℕ
+  size_of ps = 12 * length (packed per_list ps) + length (bodies_bytes strip (packed per_list ps))
 
-  pub size-turn : {ds ss : List ℕ} {a e : ℕ} → Turn ds ss a e → size_from a ds ss ≡ 15 + length (body_bytes strip (block_at a e ds ss)) + size_from e ds ss
-  size-turn {ds} {ss} {a} {e} t =
-      let b = field_bytes (tag_of strip) (body_bytes strip (block_at a e ds ss)) in
-      omega (arith, ap length t.next, ap length (bodies-turn t), length-append b (bodies_bytes strip (packed 64 (from e ds ss))), field-size (tag_of strip) (body_bytes strip (block_at a e ds ss)))
+  pub size-turn : {ds ss xs ys es fs : List ℕ} → Turn ds ss xs ys es fs → size_of (postings ds ss) ≡ 15 + length (body_bytes strip (postings xs ys)) + size_of (postings es fs)
+  size-turn {ds} {ss} {xs} {ys} {es} {fs} t =
+      let b = field_bytes (tag_of strip) (body_bytes strip (postings xs ys)) in
+      omega (arith, ap length t.next, ap length (bodies-turn t), length-append b (bodies_bytes strip (packed 64 (postings es fs))), field-size (tag_of strip) (body_bytes strip (postings xs ys)))
 
-  pub size-end : (a : ℕ) (ds ss : List ℕ) → length ds ≤ a → size_from a ds ss ≡ 0
-  size-end a ds ss h = omega (arith, ap length (packed_none a ds ss h), ap length (bodies-end a ds ss h))
+  pub size-end : size_of [] ≡ 0
+  size-end = omega (arith, ap length (packed_none 64), ap length bodies-end)
 
-  pub list-size : (t : ℕ) (ds ss : List ℕ) → length (list_bytes strip t (postings ds ss)) ≡ 8 + size_from 0 ds ss
+  pub list-size : (t : ℕ) (ds ss : List ℕ) → length (list_bytes strip t (postings ds ss)) ≡ 8 + size_of (postings ds ss)
   list-size t ds ss = ap length (list-bytes strip t (postings ds ss)) ∙ (omega (arith, blocks-size strip t (packed 64 (postings ds ss))))
 
   -- by its parts
@@ -234,7 +283,7 @@ module _ (strip : Bool) where
         size_few n (drop 99 ps),
       )
 
-  pub size_small : (ds ss : List ℕ) → size_from 0 ds ss ≤ 45760
+  pub size_small : (ds ss : List ℕ) → size_of (postings ds ss) ≤ 45760
   size_small ds ss = size_few 64 (postings ds ss)
 
 -- ---- a field of a body and a list, as the code stores them

@@ -1,13 +1,8 @@
 -- What an entry point answers that fills a lent run, and what the run holds then. Assumes nothing.
-use Rattle.std.specs.Prelude.{ℕ, ◌≡◌, List, ◌++◌, length, drop}
+use Rattle.std.specs.Prelude.{ℕ, ◌≡◌, List, ◌++◌, length, drop, Result}
 use Rattle.model.specs.Outcome.{Outcome, refused, done}
-use Rattle.list.specs.declared.answer.Answer.{Answer}
-use Rattle.list.specs.declared.answer.Answer.TheVariants.{Done, Refused}
-
--- an answer in the paper: how many were written, or the refusal's number and offset
-abbrev pub paper : Answer → Outcome ℕ
-paper (Done n) = done n
-paper (Refused n o) = refused n o
+use Rattle.model.specs.Refusal.{outcome_of}
+use Rattle.model.specs.declared.refusal.Refusal.{Refusal}
 
 abbrev pub length_of : Outcome (List ℕ) → Outcome ℕ
 length_of (done v) = done (length v)
@@ -19,6 +14,6 @@ after (done v) l = v ++ drop (length v) l
 after (refused n o) l = l
 
 -- the contract of a writer: its answer, and the run that was lent to it
-pub record Gives (o : Outcome (List ℕ)) (old new : List ℕ) (r : Answer) : Type 0 where
-  pub answers : paper r ≡ length_of o
+pub record Gives (o : Outcome (List ℕ)) (old new : List ℕ) (r : Result ℕ Refusal) : Type 0 where
+  pub answers : outcome_of r ≡ length_of o
   pub holds : new ≡ after o old

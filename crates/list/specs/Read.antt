@@ -1,14 +1,12 @@
 -- "List reading 6/7, 12, 8 (that list), 9." Assumes nothing.
-use Rattle.std.specs.Prelude.{ℕ, ◌+◌, min, cond, List, [], ◌∷◌, leb, length}
+use Rattle.std.specs.Prelude.{ℕ, ◌+◌, min, cond, List, [], ◌∷◌, leb, length, Option, Some, None, Result}
 use Rattle.model.specs.Outcome.{Outcome, refused, done, and_then}
 use Rattle.model.specs.Post.{Post, docs, scores}
 use Rattle.list.specs.Answer.{Gives}
-use Rattle.list.specs.declared.answer.Answer.{Answer}
+use Rattle.model.specs.declared.refusal.Refusal.{Refusal}
 use Rattle.shelf.specs.Walk.{Block, posts_of}
 use Rattle.lookup.specs.Find.{found}
 use Rattle.shelf.specs.Check.{bad_body}
-use Rattle.std.specs.Prelude.{Option}
-use Rattle.std.specs.Prelude.{Some, None}
 
 -- how many postings a list's summaries say it has
 abbrev pub count_of : List Block → ℕ
@@ -39,6 +37,6 @@ abbrev pub scores_of : Outcome (List Post) → Outcome (List ℕ)
 scores_of o = and_then o (λ ps. done (scores ps))
 
 -- the contract of a reader: its answer, and both runs that were lent to it
-pub record Reads (o : Outcome (List Post)) (ds ss ds' ss' : List ℕ) (r : Answer) : Type 0 where
+pub record Reads (o : Outcome (List Post)) (ds ss ds' ss' : List ℕ) (r : Result ℕ Refusal) : Type 0 where
   pub docids : Gives (docids_of o) ds ds' r
   pub scored : Gives (scores_of o) ss ss' r

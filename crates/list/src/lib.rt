@@ -1,6 +1,5 @@
 // One posting list between bytes and runs: its reader and its writer.
 #![tactic(auto)]
 
-pub mod answer;
 pub mod read;
 pub mod write;

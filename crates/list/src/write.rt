@@ -1,5 +1,5 @@
 // Writing one posting list: its length first, then its bytes, so that a refusal leaves the buffer as it was.
-ghost use Rattle.std.specs.Prelude.{◌≡◌, Bool, ◌++◌, ℕ, ◌+◌, ◌≤◌, ◌<◌, min, length};
+ghost use Rattle.std.specs.Prelude.{◌≡◌, Bool, ◌++◌, ℕ, ◌+◌, ◌≤◌, ◌<◌, length};
 ghost use Rattle.model.specs.Limits.{per_block, per_list};
 ghost use Rattle.model.specs.Post.{postings, Even};
 ghost use Rattle.model.specs.Runs.{Stored};
@@ -9,18 +9,12 @@ ghost use Rattle.block.specs.Body.{tag_of, body_bytes};
 ghost use Rattle.list.specs.Answer.{Gives};
 ghost use Rattle.list.specs.Write.{packed, sums_bytes, bodies_bytes, list_bytes, fault_at, write_list, Paired};
 
-use crate::answer::Answer;
+use model::refusal::{Fault, Refusal};
 
 // ---- blocks
 
-// Where the block ends that begins at posting `a` of `n`.
-fn block_end(n: usize, a: usize) -> usize
-    requires { a ≤ n }
-    ensures { result ≡ min (a + per_block) n }
-{
-    let full = model::PER_BLOCK as usize;
-    if n - a <= full { n } else { a + full }
-}
+// How many postings every block has but the last.
+const FULL: usize = model::PER_BLOCK as usize;
 
 // A block's body, as a field.
 pub fn put_body_field(out: &mut [u8], at: usize, strip: bool, docs: &[u32], scores: &[u16]) -> usize
@@ -49,12 +43,9 @@ fn put_summaries(out: &mut [u8], at: usize, strip: bool, docs: &[u32], scores: &
     ensures { Stored out.old out.new at result (sums_bytes strip (packed per_list (postings docs.now scores.now))) }
 {
     let mut j = at;
-    let mut a = 0;
-    while a < docs.len() {
-        let e = block_end(docs.len(), a);
-        let m = block::summary::summary_of(&docs[a..e], &scores[a..e], strip);
+    for (d, s) in docs.chunks(FULL).zip(scores.chunks(FULL)) {
+        let m = block::summary::summary_of(d, s, strip);
         j = block::summary::put_summary(out, j, m);
-        a = e;
     }
     j
 }
@@ -64,11 +55,8 @@ fn put_bodies(out: &mut [u8], at: usize, strip: bool, docs: &[u32], scores: &[u1
     ensures { Stored out.old out.new at result (bodies_bytes strip (packed per_list (postings docs.now scores.now))) }
 {
     let mut j = at;
-    let mut a = 0;
-    while a < docs.len() {
-        let e = block_end(docs.len(), a);
-        j = put_body_field(out, j, strip, &docs[a..e], &scores[a..e]);
-        a = e;
+    for (d, s) in docs.chunks(FULL).zip(scores.chunks(FULL)) {
+        j = put_body_field(out, j, strip, d, s);
     }
     j
 }
@@ -81,11 +69,8 @@ pub fn list_len(docs: &[u32], scores: &[u16]) -> usize
     ensures { (strip : Bool) (t : ℕ) → result ≡ length (list_bytes strip t (postings docs.now scores.now)) }
 {
     let mut n = 8;
-    let mut a = 0;
-    while a < docs.len() {
-        let e = block_end(docs.len(), a);
-        n += 15 + block::body::body_len(&docs[a..e], &scores[a..e]);
-        a = e;
+    for (d, s) in docs.chunks(FULL).zip(scores.chunks(FULL)) {
+        n += 15 + block::body::body_len(d, s);
     }
     n
 }
@@ -102,8 +87,7 @@ pub fn put_list(
     requires { Paired docs.now scores.now × (at + length (list_bytes strip term (postings docs.now scores.now)) ≤ length out.old) }
     ensures { Stored out.old out.new at result (list_bytes strip term (postings docs.now scores.now)) }
 {
-    let full = model::PER_BLOCK as usize;
-    let count = (docs.len() + full - 1) / full;
+    let count = docs.len().div_ceil(FULL);
     let a = put_header(out, at, term, count as u8);
     let b = put_summaries(out, a, strip, docs, scores);
     put_bodies(out, b, strip, docs, scores)
@@ -117,53 +101,49 @@ fn first_fault(docs: &[u32], scores: &[u16]) -> usize
     ensures { result ≡ fault_at 0 (postings docs.now scores.now) }
 {
     let mut p = 0;
-    let mut i = 0;
-    while i < docs.len() {
-        let d = docs[i];
-        let s = scores[i];
-        if d <= p {
-            return i;
-        }
-        if model::MAX_DOCID < d {
-            return i;
-        }
-        if s == 0 {
+    for (i, (&d, &s)) in docs.iter().zip(scores).enumerate() {
+        if d <= p || model::MAX_DOCID < d || s == 0 {
             return i;
         }
         p = d;
-        i += 1;
     }
-    i
+    docs.len()
 }
 
 // Writes a list, in the layout that is told, to the front of a buffer, which a refusal leaves as it was.
-pub fn write_list(strip: bool, term: u32, docids: &[u32], scores: &[u16], out: &mut [u8]) -> Answer
+pub fn write_list(
+    strip: bool,
+    term: u32,
+    docids: &[u32],
+    scores: &[u16],
+    out: &mut [u8],
+) -> Result<usize, Refusal>
     ensures { Gives (write_list strip term docids.now scores.now (length out.old)) out.old out.new result }
 {
     let n = docids.len();
     let m = scores.len();
     if model::MAX_POSTINGS < n {
-        return Answer::Refused(11, 0);
+        return Err(Fault::Size.at(0));
     }
     if model::MAX_POSTINGS < m {
-        return Answer::Refused(11, 0);
+        return Err(Fault::Size.at(0));
     }
     if n < m {
-        return Answer::Refused(10, n);
+        return Err(Fault::Posting.at(n));
     }
     if m < n {
-        return Answer::Refused(10, m);
+        return Err(Fault::Posting.at(m));
     }
     if n == 0 {
-        return Answer::Refused(10, 0);
+        return Err(Fault::Posting.at(0));
     }
     let fault = first_fault(docids, scores);
     if fault < n {
-        return Answer::Refused(10, fault);
+        return Err(Fault::Posting.at(fault));
     }
     let size = list_len(docids, scores);
     if out.len() < size {
-        return Answer::Refused(9, 0);
+        return Err(Fault::Room.at(0));
     }
-    Answer::Done(put_list(out, 0, strip, term, docids, scores))
+    Ok(put_list(out, 0, strip, term, docids, scores))
 }

@@ -19,7 +19,9 @@ use Rattle.lookup.specs.Gather.{no_list, term_list, place_at, each, Finds, noted
 use Rattle.shelf.specs.declared.walk.Place.{Place}
 use Rattle.shelf.specs.declared.walk.Walk.{Walk}
 use Rattle.shelf.specs.Step as step
-use Rattle.shelf.specs.declared.check.Checked.TheVariants.{Sound, Fault}
+use Rattle.std.specs.Prelude.{Ok, Err}
+use Rattle.model.specs.Refusal.{number}
+use Rattle.model.specs.declared.refusal.Refusal.{Refusal}
 use Rattle.shelf.proofs.Steps.{Turn, walk_start, walk_end, walk-fault}
 
 -- ---- a list noted for the terms one by one
@@ -142,12 +144,10 @@ module _ (s terms : List ℕ) (n : ℕ) where
     noting_sizes h k =
         (ap length g.ats ∙ each-length (λ (p : Place). p.at) terms n g.passed h k, ap length g.counts ∙ each-length (λ (p : Place). p.count) terms n g.passed h k)
 
-    pub noting_end : walk_step s w ≡ step.End → Finds s terms n (record { verdict = Sound; ats = as₀; counts = cs₀ })
+    pub noting_end : walk_step s w ≡ step.End → Finds s terms n (Ok (record { ats = as₀; counts = cs₀ }))
     noting_end e =
         let all : walk s ≡ done g.passed = g.walks ∙ rw (walk_end s w e) (ap {B = Outcome (List Listing)} (λ x. done x) (append-nil g.passed)) in
-        record { verdict = rw all; ats = rw all g.ats; counts = rw all g.counts }
+        (g.passed, all, record { ats = g.ats; counts = g.counts })
 
-    pub noting_fault : (k o : ℕ) → walk_step s w ≡ step.Fault k o → Finds s terms n (record { verdict = Fault k o; ats = replicate max_terms 0; counts = replicate max_terms 0 })
-    noting_fault k o e =
-        let bad : walk s ≡ refused k o = g.walks ∙ rw (walk-fault s w k o e) in
-        record { verdict = rw bad; ats = rw bad; counts = rw bad }
+    pub noting_fault : (r : Refusal) → walk_step s w ≡ step.Fault (number r.fault) r.offset → Finds s terms n (Err r)
+    noting_fault r e = g.walks ∙ rw (walk-fault s w (number r.fault) r.offset e)

@@ -9,7 +9,7 @@ use borrow.Author.Tests.{ltb-true, ltb-false, le-leb, lt-ltb, le-ltb}
 use lib.Dec.{ltb}
 use lib.ListN.{length, take, drop}
 use lib.Seq.{drop-drop}
-use Rattle.model.specs.Outcome.{done}
+use Rattle.model.specs.Outcome.{refused, done}
 use Rattle.model.specs.Runs.{All}
 use Rattle.model.proofs.Lists.{split}
 use Rattle.wire.specs.Field.{whole, field_len, field_value}
@@ -18,12 +18,10 @@ use Rattle.block.specs.Summary.{sum_of}
 use Rattle.block.specs.Body.{is_strip, tag_of}
 use Rattle.shelf.specs.Walk.{Block, Listing, bodies_of, bodies, blocks_of, blocks_at}
 use Rattle.shelf.specs.Answers.{Ready}
-use Rattle.lookup.specs.Find.{found, shown_of}
+use Rattle.lookup.specs.Find.{found}
+use Rattle.shelf.specs.Answers.{placed}
 use Rattle.lookup.specs.Show.{bodies_from, has_block, summary_shown, part_at, part_past, body_shown, block_of, summary_of_block, part_of_block}
 use Rattle.shelf.specs.declared.walk.Place.{Place}
-use Rattle.lookup.specs.declared.find.Shown.TheVariants as shown
-use Rattle.lookup.specs.declared.find.SummaryShown.TheVariants.{Numbers, NoSummary}
-use Rattle.lookup.specs.declared.find.BodyShown.TheVariants.{NoBody}
 use Rattle.shelf.proofs.Walks.{bodies-none, bodies-step, bodies-whole, strip-is}
 use Rattle.lookup.proofs.Stands.{found_stands}
 
@@ -41,7 +39,7 @@ ltb-suc j n =
 
 module _ (strip : Bool) where
   nth_summary : (n a b j end : ℕ) (s : List ℕ) → bodies_of strip n b (drop b s) ≡ done end →
-      summary_of_block (block_of (blocks_of n a (drop a s) b (drop b s)) j) ≡ cond (ltb j n) (Numbers (sum_of strip (drop (a + 12 * j) s))) (NoSummary 12 0)
+      summary_of_block (block_of (blocks_of n a (drop a s) b (drop b s)) j) ≡ cond (ltb j n) (done (sum_of strip (drop (a + 12 * j) s))) (refused 12 0)
   unfolding blocks_of
   nth_summary zero a b j end s h = rw (le-ltb j 0 (omega arith))
   nth_summary (suc n) a b zero end s h =
@@ -56,7 +54,7 @@ module _ (strip : Bool) where
       rw (drop-drop 12 a s, drop-drop k b s, ltb-suc j n) (nth_summary n (a + 12) (b + k) j end s rest ∙ rw e)
 
   nth_body : (n a b j end : ℕ) (m s : List ℕ) → bodies_of strip n b (drop b s) ≡ done end →
-      part_of_block (block_of (blocks_of n a m b (drop b s)) j) ≡ cond (ltb j n) (part_past s (bodies_of strip j b (drop b s))) (NoBody 12 0)
+      part_of_block (block_of (blocks_of n a m b (drop b s)) j) ≡ cond (ltb j n) (part_past s (bodies_of strip j b (drop b s))) (refused 12 0)
   unfolding blocks_of part_at
   nth_body zero a b j end m s h = rw (le-ltb j 0 (omega arith))
   nth_body (suc n) a b zero end m s h =
@@ -99,19 +97,19 @@ module _ (s : List ℕ) (p : Place) (r : Ready s p) (j : ℕ) where
   unfolding has_block
   has-is = rw (le-leb (bodies_from p) (length s) r.room) (and_is (ltb j p.count))
 
-  ready-summary : summary_shown s (shown.List p) j ≡ summary_of_block (block_of (blocks_at s p.at p.count) j)
+  ready-summary : summary_shown s (done p) j ≡ summary_of_block (block_of (blocks_at s p.at p.count) j)
   unfolding summary_shown blocks_at bodies
   ready-summary = rw has-is (sym (nth_summary (is_strip (drop (bodies_from p) s)) p.count (p.at + 8) (bodies_from p) j p.next s r.bodied))
 
-  ready-body : body_shown s (shown.List p) j ≡ part_of_block (block_of (blocks_at s p.at p.count) j)
+  ready-body : body_shown s (done p) j ≡ part_of_block (block_of (blocks_at s p.at p.count) j)
   unfolding body_shown blocks_at bodies
   ready-body = rw has-is (sym (nth_body (is_strip (drop (bodies_from p) s)) p.count (p.at + 8) (bodies_from p) j p.next (drop (p.at + 8) s) s r.bodied))
 
 module _ (t : ℕ) (s : List ℕ) (l : Listing) (e : found t s ≡ done l) (j : ℕ) where
-  pub shown-summary : summary_shown s (shown_of (found t s)) j ≡ summary_of_block (block_of l.blocks j)
+  pub shown-summary : summary_shown s (placed (found t s)) j ≡ summary_of_block (block_of l.blocks j)
   shown-summary = let k = found_stands t s l e in rw (e, k.blocks) (ready-summary s l.place k.ready j)
 
-  pub shown-body : body_shown s (shown_of (found t s)) j ≡ part_of_block (block_of l.blocks j)
+  pub shown-body : body_shown s (placed (found t s)) j ≡ part_of_block (block_of l.blocks j)
   shown-body = let k = found_stands t s l e in rw (e, k.blocks) (ready-body s l.place k.ready j)
 
   pub shown-bytes : (b : Block) → block_of l.blocks j ≡ done b → take (length b.body) (drop (b.body_at + 3) s) ≡ b.body

@@ -16,9 +16,7 @@ use Rattle.block.specs.Body.{is_strip, tag_of}
 use Rattle.shelf.specs.Walk.{bodies}
 use Rattle.lookup.specs.Show.{bodies_from, has_block, summary_shown, part_at, body_shown}
 use Rattle.shelf.specs.declared.walk.Place.{Place}
-use Rattle.lookup.specs.declared.find.Shown.TheVariants as shown
-use Rattle.lookup.specs.declared.find.SummaryShown.TheVariants.{Numbers, NoSummary}
-use Rattle.lookup.specs.declared.find.BodyShown.TheVariants.{Part, NoBody}
+use Rattle.model.specs.Outcome.{refused, done}
 
 -- ---- whether there is a block
 
@@ -51,41 +49,41 @@ module _ (s : List ℕ) (p : Place) (j : ℕ) where
 
   -- ---- its summary
 
-  pub summary-here : has_block s p j ≡ true → summary_shown s (shown.List p) j ≡ Numbers (sum_of (is_strip (drop (bodies_from p) s)) (drop (p.at + 8 + 12 * j) s))
+  pub summary-here : has_block s p j ≡ true → summary_shown s (done p) j ≡ done (sum_of (is_strip (drop (bodies_from p) s)) (drop (p.at + 8 + 12 * j) s))
   unfolding summary_shown
   summary-here e = rw e
 
-  pub summary-none : has_block s p j ≡ false → summary_shown s (shown.List p) j ≡ NoSummary 12 0
+  pub summary-none : has_block s p j ≡ false → summary_shown s (done p) j ≡ refused 12 0
   unfolding summary_shown
   summary-none e = rw e
 
   -- ---- its body
 
-  pub body-here : has_block s p j ≡ true → (b : ℕ) → bodies j (bodies_from p) (drop (bodies_from p) s) ≡ done b → body_shown s (shown.List p) j ≡ part_at s b
+  pub body-here : has_block s p j ≡ true → (b : ℕ) → bodies j (bodies_from p) (drop (bodies_from p) s) ≡ done b → body_shown s (done p) j ≡ part_at s b
   unfolding body_shown
   body-here e b q = rw (e, q)
 
-  pub body-cut : has_block s p j ≡ true → (n o : ℕ) → bodies j (bodies_from p) (drop (bodies_from p) s) ≡ refused n o → body_shown s (shown.List p) j ≡ NoBody 12 0
+  pub body-cut : has_block s p j ≡ true → (n o : ℕ) → bodies j (bodies_from p) (drop (bodies_from p) s) ≡ refused n o → body_shown s (done p) j ≡ refused 12 0
   unfolding body_shown
   body-cut e n o q = rw (e, q)
 
-  pub body-none : has_block s p j ≡ false → body_shown s (shown.List p) j ≡ NoBody 12 0
+  pub body-none : has_block s p j ≡ false → body_shown s (done p) j ≡ refused 12 0
   unfolding body_shown
   body-none e = rw e
 
-pub summary-refused : (s : List ℕ) (n o j : ℕ) → summary_shown s (shown.Refused n o) j ≡ NoSummary n o
+pub summary-refused : (s : List ℕ) (n o j : ℕ) → summary_shown s (refused n o) j ≡ refused n o
 unfolding summary_shown
 summary-refused s n o j = refl
 
-pub body_refused : (s : List ℕ) (n o j : ℕ) → body_shown s (shown.Refused n o) j ≡ NoBody n o
+pub body_refused : (s : List ℕ) (n o j : ℕ) → body_shown s (refused n o) j ≡ refused n o
 unfolding body_shown
 body_refused s n o j = refl
 
 module _ (s : List ℕ) (b : ℕ) where
-  pub part-there : (n : ℕ) → field_at (tag_of (is_strip (drop b s))) s b ≡ Some n → part_at s b ≡ Part (b + 3) (b + 3 + n)
+  pub part-there : (n : ℕ) → field_at (tag_of (is_strip (drop b s))) s b ≡ Some n → part_at s b ≡ done (record { start = b + 3; end = b + 3 + n })
   unfolding part_at
   part-there n e = let i = field_is (tag_of (is_strip (drop b s))) s b n e in rw (i.0, i.1)
 
-  pub part_none : field_at (tag_of (is_strip (drop b s))) s b ≡ None → part_at s b ≡ NoBody 12 0
+  pub part_none : field_at (tag_of (is_strip (drop b s))) s b ≡ None → part_at s b ≡ refused 12 0
   unfolding part_at
   part_none e = rw (field-not (tag_of (is_strip (drop b s))) s b e)

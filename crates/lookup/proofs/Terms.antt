@@ -1,37 +1,18 @@
 -- What `find_terms` found in a shelf whose walk is not refused: it may be gathered, and its lists are those of the query's terms. Assumes nothing.
 use Prim.Native.Nat.{ℕ, zero, suc, ◌-◌, ◌≤◌, ◌<◌}
 use native.Mathlib.Omega.{arith}
-use mathlib.Core.Path.{◌≡◌, refl, sym, ap, ap₂, ◌∙◌}
+use mathlib.Core.Path.{◌≡◌, refl, sym, ap₂, ◌∙◌}
 use mathlib.Core.List.{List, [], ◌∷◌, ◌++◌, map, map-append}
 use lib.ListN.{length, get_or, take, replicate}
 use lib.Seq.{length-take-le, get_or-take, take-suc}
 use Rattle.model.specs.Limits.{max_terms}
-use Rattle.model.specs.Outcome.{Outcome, refused, done}
+use Rattle.model.specs.Outcome.{done}
 use Rattle.shelf.specs.Walk.{Listing, blocks_at, walk}
-use Rattle.shelf.specs.Check.{judged, paper}
-use Rattle.lookup.specs.Gather.{place_at, term_blocks, each, Finds}
+use Rattle.lookup.specs.Gather.{place_at, term_blocks, each, Located}
 use Rattle.lookup.specs.Table.{found_lists, Gatherable}
-use Rattle.shelf.specs.declared.check.Checked.TheVariants.{Sound, Fault}
 use Rattle.shelf.specs.declared.walk.Place.{Place}
 use Rattle.lookup.specs.declared.gather.Found.{Found}
 use Rattle.lookup.proofs.Stands.{walk-size, term-blocks, term-ready}
-
--- ---- from the verdict back to the walk
-
-judged-done : (r : Outcome (List Listing)) → judged r ≡ done tt → (ls : List Listing) × (r ≡ done ls)
-judged-done (done ls) e = (ls, refl)
-judged-done (refused n o) e = let z : ◌≡◌ {A = ℕ} 0 1 = cc in absurd (omega arith)
-
-judged-refused : (r : Outcome (List Listing)) (k o : ℕ) → judged r ≡ refused k o → r ≡ refused k o
-judged-refused (done ls) k o e = let z : ◌≡◌ {A = ℕ} 0 1 = cc in absurd (omega arith)
-judged-refused (refused n m) k o e = let f : n ≡ k = cc in let g : m ≡ o = cc in rw (f, g)
-
-module _ (s terms : List ℕ) (n : ℕ) (r : Found) (f : Finds s terms n r) where
-  pub found-walk : r.verdict ≡ Sound → (ls : List Listing) × (walk s ≡ done ls)
-  found-walk e = judged-done (walk s) (sym f.verdict ∙ ap paper e)
-
-  pub found-fault : (k o : ℕ) → r.verdict ≡ Fault k o → walk s ≡ refused k o
-  found-fault k o e = judged-refused (walk s) k o (sym f.verdict ∙ ap paper e)
 
 -- ---- what was found, term by term
 
@@ -45,12 +26,12 @@ each_at f terms n ls i fits h =
     map_at (λ (t : ℕ). f (place_at t ls)) (take n terms) (replicate (max_terms - n) 0) i (omega (arith, length-take-le n terms fits))
     ∙ rw (get_or-take n terms i 0 h)
 
-module _ (s terms : List ℕ) (n : ℕ) (r : Found) (ls : List Listing) (e : walk s ≡ done ls) (f : Finds s terms n r) (few : n ≤ max_terms) (fits : n ≤ length terms) where
+module _ (s terms : List ℕ) (n : ℕ) (r : Found) (ls : List Listing) (e : walk s ≡ done ls) (f : Located terms n ls r) (few : n ≤ max_terms) (fits : n ≤ length terms) where
   pub found_at : (i : ℕ) → i < n → get_or r.ats i 0 ≡ (place_at (get_or terms i 0) ls).at
-  found_at i h = rw (f.ats, e) (each_at (λ (p : Place). p.at) terms n ls i fits h)
+  found_at i h = rw f.ats (each_at (λ (p : Place). p.at) terms n ls i fits h)
 
   pub found-count : (i : ℕ) → i < n → get_or r.counts i 0 ≡ (place_at (get_or terms i 0) ls).count
-  found-count i h = rw (f.counts, e) (each_at (λ (p : Place). p.count) terms n ls i fits h)
+  found-count i h = rw f.counts (each_at (λ (p : Place). p.count) terms n ls i fits h)
 
   pub found_gatherable : Gatherable s r.ats r.counts n
   found_gatherable = record {

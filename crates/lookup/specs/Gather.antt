@@ -1,9 +1,10 @@
 -- The lists of a search's terms, found in one walk. Assumes nothing.
-use Rattle.std.specs.Prelude.{ℕ, ◌-◌, ◌≡◌, List, [], ◌∷◌, ◌++◌, map, cond, eqb, take, replicate}
+use Rattle.std.specs.Prelude.{ℕ, ◌-◌, ◌≡◌, List, [], ◌∷◌, ◌++◌, map, cond, eqb, take, replicate, Result, Ok, Err}
 use Rattle.model.specs.Limits.{max_terms}
-use Rattle.model.specs.Outcome.{Outcome, refused, done}
+use Rattle.model.specs.Outcome.{refused, done}
 use Rattle.shelf.specs.Walk.{Block, Listing, walk}
-use Rattle.shelf.specs.Check.{judged, paper}
+use Rattle.model.specs.Refusal.{number}
+use Rattle.model.specs.declared.refusal.Refusal.{Refusal}
 use Rattle.shelf.specs.declared.walk.Place.{Place}
 use Rattle.lookup.specs.declared.gather.Found.{Found}
 
@@ -26,15 +27,15 @@ term_blocks t ls = (term_list t ls).blocks
 abbrev pub each : (Place → ℕ) → List ℕ → ℕ → List Listing → List ℕ
 each f terms n ls = map (λ (t : ℕ). f (place_at t ls)) (take n terms) ++ replicate (max_terms - n) 0
 
--- where the walk is refused no list is found
-abbrev pub on_found : (Place → ℕ) → List ℕ → ℕ → Outcome (List Listing) → List ℕ
-on_found f terms n (done ls) = each f terms n ls
-on_found f terms n (refused k o) = replicate max_terms 0
+-- where the lists of the first n terms begin, and their block counts
+pub record Located (terms : List ℕ) (n : ℕ) (ls : List Listing) (r : Found) : Type 0 where
+  pub ats : r.ats ≡ each (λ (p : Place). p.at) terms n ls
+  pub counts : r.counts ≡ each (λ (p : Place). p.count) terms n ls
 
-pub record Finds (s terms : List ℕ) (n : ℕ) (r : Found) : Type 0 where
-  pub verdict : paper r.verdict ≡ judged (walk s)
-  pub ats : r.ats ≡ on_found (λ (p : Place). p.at) terms n (walk s)
-  pub counts : r.counts ≡ on_found (λ (p : Place). p.count) terms n (walk s)
+-- the lists of the terms; or the walk's refusal
+abbrev pub Finds : (s terms : List ℕ) (n : ℕ) → Result Found Refusal → Type 0
+Finds s terms n (Ok r) = (ls : List Listing) × (walk s ≡ done ls) × Located terms n ls r
+Finds s terms n (Err e) = walk s ≡ refused (number e.fault) e.offset
 
 -- ---- one list noted
 

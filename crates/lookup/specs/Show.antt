@@ -8,12 +8,7 @@ use Rattle.block.specs.Body.{is_strip, tag_of}
 use Rattle.shelf.specs.Walk.{Block, bodies}
 use Rattle.block.specs.declared.summary.Summary.{Summary}
 use Rattle.shelf.specs.declared.walk.Place.{Place}
-use Rattle.lookup.specs.declared.find.Shown.{Shown}
-use Rattle.lookup.specs.declared.find.Shown.TheVariants as shown
-use Rattle.lookup.specs.declared.find.SummaryShown.{SummaryShown}
-use Rattle.lookup.specs.declared.find.SummaryShown.TheVariants.{Numbers, NoSummary}
-use Rattle.lookup.specs.declared.find.BodyShown.{BodyShown}
-use Rattle.lookup.specs.declared.find.BodyShown.TheVariants.{Part, NoBody}
+use Rattle.std.specs.declared.ops.Range.{Range}
 
 -- where the bodies of a list begin
 abbrev pub bodies_from : Place → ℕ
@@ -24,39 +19,26 @@ unfoldable pub has_block : List ℕ → Place → ℕ → Bool
 has_block s p j = ltb j p.count && leb (bodies_from p) (length s)
 
 -- "block .. not there: 12"; the list's bodies have the first one's layout
-unfoldable pub summary_shown : List ℕ → Shown → ℕ → SummaryShown
-summary_shown s (shown.Refused n o) j = NoSummary n o
-summary_shown s (shown.List p) j = cond (has_block s p j) (Numbers (sum_of (is_strip (drop (bodies_from p) s)) (drop (p.at + 8 + 12 * j) s))) (NoSummary 12 0)
-
--- the body whose tag stands at a place: where its value starts and ends
-unfoldable pub part_at : List ℕ → ℕ → BodyShown
-part_at s b = cond (whole (tag_of (is_strip (drop b s))) (drop b s)) (Part (b + 3) (b + 3 + field_len (drop b s))) (NoBody 12 0)
-
--- past the bodies before it
-abbrev pub part_past : List ℕ → Outcome ℕ → BodyShown
-part_past s (done b) = part_at s b
-part_past s (refused n o) = NoBody 12 0
-
-unfoldable pub body_shown : List ℕ → Shown → ℕ → BodyShown
-body_shown s (shown.Refused n o) j = NoBody n o
-body_shown s (shown.List p) j = cond (has_block s p j) (part_past s (bodies j (bodies_from p) (drop (bodies_from p) s))) (NoBody 12 0)
-
--- ---- what the answers are in the paper
-
--- the summary's numbers, or the refusal's number and offset
-abbrev pub paper_summary : SummaryShown → Outcome Summary
-paper_summary (Numbers m) = done m
-paper_summary (NoSummary n o) = refused n o
+unfoldable pub summary_shown : List ℕ → Outcome Place → ℕ → Outcome Summary
+summary_shown s (refused n o) j = refused n o
+summary_shown s (done p) j = cond (has_block s p j) (done (sum_of (is_strip (drop (bodies_from p) s)) (drop (p.at + 8 + 12 * j) s))) (refused 12 0)
 
 -- a part of the shelf: where it starts, and the place past it
-pub record Span : Type 0 where
-  pub start : ℕ
-  pub end : ℕ
+abbrev pub Span : Type 0
+Span = Range ℕ
 
--- where the body's value starts and ends, or the refusal's number and offset
-abbrev pub paper_body : BodyShown → Outcome Span
-paper_body (Part start end) = done (record { start = start; end = end })
-paper_body (NoBody n o) = refused n o
+-- the body whose tag stands at a place: where its value starts and ends
+unfoldable pub part_at : List ℕ → ℕ → Outcome Span
+part_at s b = cond (whole (tag_of (is_strip (drop b s))) (drop b s)) (done (record { start = b + 3; end = b + 3 + field_len (drop b s) })) (refused 12 0)
+
+-- past the bodies before it
+abbrev pub part_past : List ℕ → Outcome ℕ → Outcome Span
+part_past s (done b) = part_at s b
+part_past s (refused n o) = refused 12 0
+
+unfoldable pub body_shown : List ℕ → Outcome Place → ℕ → Outcome Span
+body_shown s (refused n o) j = refused n o
+body_shown s (done p) j = cond (has_block s p j) (part_past s (bodies j (bodies_from p) (drop (bodies_from p) s))) (refused 12 0)
 
 -- ---- the same in terms of a list's blocks
 
@@ -65,14 +47,14 @@ block_of [] j = refused 12 0
 block_of (b ∷ bs) zero = done b
 block_of (b ∷ bs) (suc j) = block_of bs j
 
-abbrev pub summary_of_block : Outcome Block → SummaryShown
-summary_of_block (done b) = Numbers b.sum
-summary_of_block (refused n o) = NoSummary n o
-
-abbrev pub part_of_block : Outcome Block → BodyShown
-part_of_block (done b) = Part (b.body_at + 3) (b.body_at + 3 + length b.body)
-part_of_block (refused n o) = NoBody n o
-
 -- where a block's body stands in the shelf, past its tag and length
 abbrev pub span_of : Block → Span
 span_of b = record { start = b.body_at + 3; end = b.body_at + 3 + length b.body }
+
+abbrev pub summary_of_block : Outcome Block → Outcome Summary
+summary_of_block (done b) = done b.sum
+summary_of_block (refused n o) = refused n o
+
+abbrev pub part_of_block : Outcome Block → Outcome Span
+part_of_block (done b) = done (span_of b)
+part_of_block (refused n o) = refused n o

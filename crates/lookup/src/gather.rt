@@ -4,17 +4,15 @@ ghost use Rattle.shelf.specs.Walk.{blocks_at};
 ghost use Rattle.lookup.specs.Gather.{Notes, Finds};
 ghost use Rattle.lookup.specs.Table.{runs, Layable, Lays, found_lists, Gatherable, Gathered};
 
-use shelf::blocks::{BlockStep, Reading};
-use shelf::check::Checked;
-use shelf::walk::{Place, Walk, WalkStep};
+use model::refusal::Refusal;
+use shelf::blocks::Reading;
+use shelf::walk::{Place, Walk};
 
 // ---- the lists of the terms
 
-// What the walk found: its refusal if there is one, and where the list of each term begins with its block count.
-// A term without a list has 0 and 0, as all have where the walk is refused.
+// What the walk found: where the list of each term begins, and its block count. A term without a list has 0 and 0.
 #[derive(Drop)]
 pub struct Found {
-    pub verdict: Checked,
     pub ats: [usize; 8],
     pub counts: [u8; 8],
 }
@@ -30,7 +28,7 @@ fn note<'a>(
     requires { (n ≤ 8) × (length terms.now ≡ 8) × (length ats.old ≡ 8) × (length counts.old ≡ 8) }
     ensures { Notes terms.now n list ats.old counts.old ats.new counts.new }
 {
-    for (i, term) in terms[0..n].iter().enumerate() {
+    for (i, term) in terms[..n].iter().enumerate() {
         if *term == list.term {
             ats[i] = list.at;
             counts[i] = list.count;
@@ -39,35 +37,17 @@ fn note<'a>(
 }
 
 // The lists of the first `n` terms.
-pub fn find_terms(s: &[u8], terms: [u32; 8], n: usize) -> Found
+pub fn find_terms(s: &[u8], terms: [u32; 8], n: usize) -> Result<Found, Refusal>
     requires { n ≤ 8 }
     ensures { Finds s.now terms n result }
 {
     let mut ats = [0usize; 8];
     let mut counts = [0u8; 8];
-    let mut w = Walk::new();
-    loop {
-        match w.next(s) {
-            WalkStep::List(p, onward) => {
-                note(&terms, n, p, &mut ats, &mut counts);
-                w = onward;
-            }
-            WalkStep::End => {
-                return Found {
-                    verdict: Checked::Sound,
-                    ats: ats,
-                    counts: counts,
-                };
-            }
-            WalkStep::Fault(k, o) => {
-                return Found {
-                    verdict: Checked::Fault(k, o),
-                    ats: [0usize; 8],
-                    counts: [0u8; 8],
-                };
-            }
-        }
+    let mut walk = Walk::new();
+    while let Some(list) = walk.next(s)? {
+        note(&terms, n, list, &mut ats, &mut counts);
     }
+    Ok(Found { ats, counts })
 }
 
 // ---- the blocks of the lists that were found
@@ -110,22 +90,15 @@ fn lay_list<'a>(
         left: count,
     };
     let mut i = j;
-    loop {
-        match r.next(s) {
-            BlockStep::Block(m, v, e, onward) => {
-                los[i] = m.least;
-                his[i] = m.greatest;
-                tops[i] = m.top;
-                counts[i] = m.count;
-                bodies[i] = (v - 3) as u32;
-                i += 1;
-                r = onward;
-            }
-            BlockStep::Last => {
-                return i;
-            }
-        }
+    while let Some(b) = r.next(s) {
+        los[i] = b.summary.least;
+        his[i] = b.summary.greatest;
+        tops[i] = b.summary.top;
+        counts[i] = b.summary.count;
+        bodies[i] = (b.start - 3) as u32;
+        i += 1;
     }
+    i
 }
 
 // The blocks of the first `n` lists that were found.

@@ -7,6 +7,8 @@ use native.Mathlib.Omega.{arith}
 use native.Mathlib.Numerals.{add-one}
 use lib.ListN.{length, set, take, drop, length-append, length-drop, take-append-drop}
 use lib.Seq.{sets, sets-eq, length-sets, take_all, take-suc-set, drop-set-lt, drop-drop, length-take-le, take_at, drop_at}
+use borrow.Rule.Slice.PartMut.{put_mid}
+use Rattle.std.proofs.lemmas.Slice.{put_mid-paste}
 use Rattle.model.specs.Runs.{Stored, Holds}
 
 -- no bound is asked: what lies past the end is not stored by either
@@ -71,6 +73,16 @@ rest_end {l} {m} {at} {j} {v} {w} e t =
 -- there is room for the next piece
 pub rest-room : {l m : List ℕ} {at j : ℕ} {v w : List ℕ} (p x : List ℕ) → w ≡ p ++ x → Rest l m at j v w → at + length v ≤ length l → j + length p ≤ length m
 rest-room {l} {m} {at} {j} {v} {w} p x e t h = omega (arith, t.same, t.place, ap length e, length-append p x)
+
+-- w put over the part of n bytes that begins at a place
+pub stored_over : (l v w : List ℕ) (at n k : ℕ) → w ≡ v → length v ≡ n → k ≡ n → at + n ≤ length l → Stored l (put_mid at k l w) at (at + n) v
+stored_over l v w at n k e s q h =
+    record {
+      past = omega (arith, s);
+      whole = put_mid-paste at k l w v (length v) e (s ∙ sym q) refl
+          ∙ ap (λ (t : List ℕ). take at l ++ t ++ drop (at + length v) l) (take_all (length v) v (omega arith))
+          ∙ sym (sets-eq v l at (omega arith));
+    }
 
 -- ---- a run written from the front
 

@@ -17,7 +17,7 @@ use Rattle.opening.specs.Table.{numbered, gap}
 use Rattle.model.specs.Limits.{max_terms}
 use Rattle.opening.specs.Meet.{met_from, Reaches, met_at, Moved, AllMoved}
 use Rattle.opening.specs.Enter.{body_of, is_new}
-use Rattle.opening.proofs.Numbers.{numbered-length}
+use Rattle.opening.proofs.Numbers.{numbered-length, First}
 
 -- ---- the blocks by their numbers
 
@@ -90,6 +90,10 @@ module _ (B : ℕ → Block) where
       (opens-new (met_index (numbered B n f) q) (met_index (numbered B n f) d) n f l)
 
 -- ---- the loop that moves the lists on
+
+-- the first of the blocks from `from` up to `end` that does not end below d
+pub reaches_first : (his : List ℕ) (from end d r : ℕ) → First (λ x. x < d) (λ x. d ≤ x) his from end r → Reaches his from end d r
+reaches_first his from end d r f = record { on = f.on; upto = f.upto; below = f.before; ends = f.found }
 
 pub record Moving (los his ends ats₀ mets₀ ats mets : List ℕ) (d t : ℕ) : Type 0 where
   pub within : t ≤ max_terms

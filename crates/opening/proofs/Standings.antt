@@ -228,7 +228,7 @@ module _ (s los his tops counts bodies weights was mets : List ℕ) (heads : Lis
       → ((get_or mets t 0 ≡ gap → ⊥) → Loadable s los his tops counts bodies (get_or mets t 0))
       → Entering n s los his tops counts bodies weights was mets heads ds₀ ss₀ hs ds ss fresh wrong t
       → Enters s los his tops counts bodies (get_or weights t 0) t (get_or was t 0) (get_or mets t 0) (get_or hs t blank) ds ss ds' ss' r
-      → more ≡ fresh + r.fresh → less ≡ cond (ltb r.wrong wrong) r.wrong wrong
+      → more ≡ fresh + r.fresh → less ≡ min wrong r.wrong
       → Entering n s los his tops counts bodies weights was mets heads ds₀ ss₀ (set hs t r.head) ds' ss' more less (t + 1)
   entering_more n hs ds ss fresh wrong t ds' ss' r more less nm l b ok w en mo le =
       let mine : t < max_terms = omega arith in
@@ -273,7 +273,7 @@ module _ (s los his tops counts bodies weights was mets : List ℕ) (heads : Lis
             ∙ ap (earlier (under (length s) wrong)) f
             ∙ sym (earlier_assoc (under (length s) wrong) (fault_of (body_of B met-t)) (fault_from B mets (n - (t + 1)) (t + 1)))
             ∙ ap {B = Option ℕ} (λ x. earlier (earlier (under (length s) wrong) x) (fault_from B mets (n - (t + 1)) (t + 1))) (sym g)
-            ∙ ap {B = Option ℕ} (λ x. earlier x (fault_from B mets (n - (t + 1)) (t + 1))) (under-lesser (length s) wrong r.wrong ∙ ap (under (length s)) (sym le));
+            ∙ ap {B = Option ℕ} (λ x. earlier x (fault_from B mets (n - (t + 1)) (t + 1))) (under-lesser (length s) wrong r.wrong ∙ ap (under (length s)) (least-is wrong r.wrong ∙ sym le));
       }
 
   earlier-none : (x : Option ℕ) → earlier x none ≡ x

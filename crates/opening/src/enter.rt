@@ -1,5 +1,5 @@
 // An interval entered: each list keeps its place in the block that it reads already, or has the block that is met loaded, once.
-ghost use Rattle.std.specs.Prelude.{◌≡◌, cond, [], ◌+◌, ◌≤◌, ◌<◌, ltb, length, drop};
+ghost use Rattle.std.specs.Prelude.{◌≡◌, [], ◌+◌, ◌≤◌, ◌<◌, length, drop};
 ghost use Rattle.wire.specs.Field.{field_len, field_value};
 ghost use Rattle.scan.specs.Heads.{roomy};
 ghost use Rattle.scan.specs.Load.{head_of};
@@ -28,7 +28,7 @@ pub fn ended(weight: u8, t: usize) -> Head
     Head {
         doc: scan::head::END,
         score: 0,
-        weight: weight,
+        weight,
         at: 100 * t,
         end: 100 * t,
     }
@@ -64,7 +64,7 @@ fn enter(
     let none = shelf.len();
     if met == was {
         return Entry {
-            head: head,
+            head,
             fresh: 0,
             wrong: none,
         };
@@ -98,15 +98,6 @@ fn enter(
     }
 }
 
-fn lesser(a: usize, b: usize) -> usize
-    ensures { result ≡ cond (ltb b a) b a }
-{
-    if b < a {
-        return b;
-    }
-    a
-}
-
 // All lists in an interval: their heads, how many blocks were loaded, and the least offset of a wrong body's tag.
 #[derive(Drop)]
 pub struct Entrance {
@@ -136,24 +127,18 @@ pub(crate) fn enter_all(
     let mut hs = heads;
     let mut fresh: usize = 0;
     let mut wrong = shelf.len();
-    let mut t: usize = 0;
-    while t < 8 {
-        let h = hs[t];
-        let w = weights[t];
-        let a = was[t];
-        let m = mets[t];
+    for t in 0..8 {
         let e = enter(
-            shelf, los, his, tops, counts, bodies, w, t, a, m, h, docs, scores,
+            shelf, los, his, tops, counts, bodies, weights[t], t, was[t], mets[t], hs[t], docs,
+            scores,
         );
-        let g = e.head;
-        hs[t] = g;
+        hs[t] = e.head;
         fresh += e.fresh;
-        wrong = lesser(wrong, e.wrong);
-        t += 1;
+        wrong = wrong.min(e.wrong);
     }
     Entrance {
         heads: hs,
-        fresh: fresh,
-        wrong: wrong,
+        fresh,
+        wrong,
     }
 }

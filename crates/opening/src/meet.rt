@@ -10,14 +10,10 @@ fn reach(his: &[u32], from: usize, end: usize, d: u32) -> usize
     requires { (from ≤ end) × (end ≤ length his.now) }
     ensures { Reaches his.now from end d result }
 {
-    let mut j = from;
-    while j < end {
-        if d <= his[j] {
-            return j;
-        }
-        j += 1;
+    match his[from..end].iter().position(|&greatest| d <= greatest) {
+        Some(passed) => from + passed,
+        None => end,
     }
-    j
 }
 
 // The block at that place, unless it begins above the docid.
@@ -25,13 +21,7 @@ fn met(los: &[u32], j: usize, end: usize, d: u32) -> usize
     requires { end ≤ length los.now }
     ensures { result ≡ met_at los.now end d j }
 {
-    if end <= j {
-        return GAP;
-    }
-    if los[j] <= d {
-        return j;
-    }
-    GAP
+    if j < end && los[j] <= d { j } else { GAP }
 }
 
 // All lists' places moved on to an interval's first docid, and the blocks that it meets.
@@ -46,12 +36,9 @@ pub fn meet_all(
     requires { Placed los.now his.now ends.now ats.old × (length mets.old ≡ 8) }
     ensures { AllMoved los.now his.now ends.now ats.old ats.new mets.new d }
 {
-    let mut t: usize = 0;
-    while t < 8 {
-        let end = ends[t];
+    for (t, &end) in ends.iter().enumerate() {
         let j = reach(his, ats[t], end, d);
         ats[t] = j;
         mets[t] = met(los, j, end, d);
-        t += 1;
     }
 }

@@ -2,8 +2,10 @@
 ghost use Rattle.opening.specs.Enter.{Enterable};
 ghost use Rattle.opening.specs.Turn.{Openable, Opens};
 
+use crate::enter::Entrance;
 use rank::keep::Kept;
 use scan::head::Head;
+use scan::run::After;
 
 // Past an opened interval: where the lists stand, the hits kept, how many blocks were loaded, and the least offset of a wrong body's tag;
 // the shelf's length where none is wrong.
@@ -38,26 +40,26 @@ pub fn open(
     ensures { Opens shelf.now los.now his.now tops.now counts.now bodies.now weights.now was.now mets.now heads docs.old scores.old docs.new scores.new first last k kept result }
 {
     let none = shelf.len();
-    let e = crate::enter::enter_all(
+    let Entrance {
+        heads,
+        fresh,
+        wrong,
+    } = crate::enter::enter_all(
         shelf, los, his, tops, counts, bodies, weights, was, mets, heads, docs, scores,
     );
-    let wrong = e.wrong;
-    let hs = e.heads;
     if wrong < none {
         return Turn {
-            heads: hs,
-            kept: kept,
-            fresh: e.fresh,
-            wrong: wrong,
+            heads,
+            kept,
+            fresh,
+            wrong,
         };
     }
-    let a = scan::run::interval(docs, scores, hs, first, last, k, kept);
-    let past = a.heads;
-    let best = a.kept;
+    let After { heads, kept } = scan::run::interval(docs, scores, heads, first, last, k, kept);
     Turn {
-        heads: past,
-        kept: best,
-        fresh: e.fresh,
+        heads,
+        kept,
+        fresh,
         wrong: none,
     }
 }

@@ -4,13 +4,14 @@ use mathlib.Core.Path.{◌≡◌, refl, sym, ◌∙◌}
 use mathlib.Core.List.{List, [], ◌∷◌, ◌++◌, map, append_assoc}
 use native.Mathlib.Omega.{arith}
 use lib.Dec.{leb}
-use lib.ListN.{length, get_or, take, drop, set, length-set, take-append-drop, drop_of_length-le}
+use lib.ListN.{length, get_or, take, drop, set, length-set}
 use native.Mathlib.Numerals.{add-one}
-use lib.Seq.{drop-set-lt, take-suc}
+use lib.Seq.{drop-set-lt}
 use borrow.Author.Tests.{le-leb, lt-leb}
+use Rattle.std.specs.List.{AllWithin}
 use Rattle.model.specs.Outcome.{done}
 use Rattle.model.specs.Runs.{All, Asc}
-use Rattle.model.proofs.Lists.{and-false, All_map, All_append}
+use Rattle.model.proofs.Lists.{and-false, All_map}
 use Rattle.prune.specs.Cut.{Block, Listing, top_at, ceiling_at, Rises}
 use Rattle.prune.proofs.Merges.{drop_at}
 use Rattle.model.proofs.Storing.{front-more, past_more}
@@ -62,9 +63,16 @@ module _ (los his tops : List ℕ) (d j : ℕ) (q : Summaries los his tops) (w :
   pub reached-met : j < length los → get_or los j 0 ≤ d → get_or tops j 0 ≡ top_at (blocks_of los his tops) d
   reached-met l h = top-met los his tops d j q.his-even q.tops-even w.below l h (w.ends (omega (arith, q.his-even)))
 
--- One turn of `reach`
-pub below_more : (his : List ℕ) (d j : ℕ) → All (λ g. g < d) (take j his) → j < length his → get_or his j 0 < d → All (λ g. g < d) (take (j + 1) his)
-below_more his d j all l h = rw (add-one j, take-suc his j 0 l) (All_append (λ g. g < d) (take j his) (get_or his j 0 ∷ []) all (h, tt))
+-- what is below `d` up to a place, and from there on
+below_each : (d n : ℕ) (his : List ℕ) → ((k : ℕ) → k < n → k < length his → get_or his k 0 < d) → All (λ g. g < d) (take n his)
+below_each d zero his f = tt
+below_each d (suc n) [] f = tt
+below_each d (suc n) (x ∷ his) f = (f 0 (omega arith) (omega arith), below_each d n his (λ k l m. f (suc k) (omega arith) (omega arith)))
+
+pub below-part : (d from n : ℕ) (his : List ℕ) → All (λ g. g < d) (take from his) → AllWithin (λ g. g < d) (drop from his) 0 n → All (λ g. g < d) (take (from + n) his)
+below-part d zero n his all f = let z : 0 + n ≡ n = omega arith in rw z (below_each d n his (λ k l m. f k 0 (omega arith) l))
+below-part d (suc i) n [] all f = let z : suc i + n ≡ suc (i + n) = omega arith in rw z tt
+below-part d (suc i) n (x ∷ his) all f = let z : suc i + n ≡ suc (i + n) = omega arith in rw z (all.0, below-part d i n his all.1 f)
 
 -- from one interval to the next
 asc_at : (n k : ℕ) (xs : List ℕ) → Asc n xs → k + 1 < length xs → get_or xs k 0 < get_or xs (suc k) 0
@@ -85,22 +93,6 @@ pub record Raising (w : ℕ) (bs : List Block) (ds old out : List ℕ) (k : ℕ)
   pub rest : raise w bs ds old ≡ take k out ++ raise w bs (drop k ds) (drop k out)
   pub past : drop k out ≡ drop k old
 
-pub raising_none : (w : ℕ) (bs : List Block) (ds old : List ℕ) → Raising w bs ds old old 0
-raising_none w bs ds old = record { k-in = omega arith; same = refl; rest = refl; past = refl }
-
--- a number not yet raised is the old one
-pub unraised : (w : ℕ) (bs : List Block) (ds old out : List ℕ) (m k : ℕ) → length ds ≤ length old → Raising w bs ds old out k → k < length ds
-    → All (λ c. c < m) old → get_or out k 0 < m
-unraised w bs ds old out m k h s l a = all-at (drop k out) (rw s.past (all_drop k old a))
-  where
-    all_drop : (i : ℕ) (xs : List ℕ) → All (λ c. c < m) xs → All (λ c. c < m) (drop i xs)
-    all_drop zero xs all = all
-    all_drop (suc i) [] all = tt
-    all_drop (suc i) (x ∷ xs) all = all_drop i xs all.1
-
-    all-at : (xs : List ℕ) → All (λ c. c < m) (drop k out) → get_or out k 0 < m
-    all-at xs all = (rw (drop_at out k (omega (arith, s.same))) at all).0
-
 pub raising_more : (w : ℕ) (bs : List Block) (ds old out : List ℕ) (k t : ℕ) → length ds ≤ length old → Raising w bs ds old out k → k < length ds
     → t ≡ top_at bs (get_or ds k 0) → Raising w bs ds old (set out k (get_or out k 0 + w * t)) (k + 1)
 raising_more w bs ds old out k t h s l e =
@@ -114,9 +106,6 @@ raising_more w bs ds old out k t h s l e =
           (sym (append_assoc (take k out) (x ∷ []) (raise w bs (drop (k + 1) ds) (drop (k + 1) out))));
       past = past_more old out k x s.past;
     }
-
-pub raising_done : (w : ℕ) (bs : List Block) (ds old out : List ℕ) (k : ℕ) → length ds ≤ k → Raising w bs ds old out k → out ≡ raise w bs ds old
-raising_done w bs ds old out k l s = sym (s.rest ∙ rw (drop_of_length-le ds l) (take-append-drop k out))
 
 -- All lists: where the ceilings of the first lists stand, one more raises them to its own
 ceiling_snoc : (ls : List Listing) (l : Listing) (d : ℕ) → ceiling_at (ls ++ (l ∷ [])) d ≡ ceiling_at ls d + l.weight * top_at l.blocks d

@@ -5,15 +5,15 @@ use mathlib.Core.Bool.{◌&&◌}
 use mathlib.Core.List.{List, [], ◌∷◌, ◌++◌}
 use native.Mathlib.Omega.{arith}
 use native.Mathlib.Numerals.{add-one}
-use lib.ListN.{length, get_or, take, drop, set, length-set, take-append-drop}
-use lib.Seq.{take-suc, take_all, length-take-le}
+use lib.ListN.{length, get_or, take, drop, set, length-set}
+use lib.Seq.{take-suc, length-take-le}
 use Rattle.model.specs.Runs.{adds, has, Asc, All, Holds}
 use Rattle.prune.specs.Cut.{keeps_cut, add_cut, add_cuts}
 use Rattle.model.proofs.Lists.{split, or_false, All_map}
 use Rattle.model.proofs.Runs.{asc_ext, asc_adds, asc_all, asc_less, has-adds, All_add}
 use Rattle.prune.proofs.Cuts.{adds_asc, has-cuts, cut_asc}
 use Rattle.prune.specs.Gather.{Blocks, Up, edges_of}
-use Rattle.model.proofs.Storing.{front-more, past_more, run_holds, holds-take, holds_trans, holds-none}
+use Rattle.model.proofs.Storing.{front-more, past_more, run_holds, holds-take, holds_trans}
 use Rattle.prune.proofs.Pushes.{cut-grows, cut-few}
 
 -- A copy
@@ -86,22 +86,11 @@ up_pair n k (x ∷ los) [] l e u = absurd (omega arith)
 up_pair n zero (x ∷ los) (y ∷ his) l e u = u.1.0
 up_pair n (suc k) (x ∷ los) (y ∷ his) l e u = up_pair (y + 1) k los his (omega arith) (omega arith) u.1.1
 
-pub after-fits : (lim k : ℕ) (los his : List ℕ) → Blocks lim los his → k < length los → get_or his k 0 ≤ lim
-after-fits lim k los his b l = at k his (omega (arith, b.even)) b.most
-  where
-    at : (i : ℕ) (xs : List ℕ) → i < length xs → All (λ g. g ≤ lim) xs → get_or xs i 0 ≤ lim
-    at i [] l all = absurd (omega arith)
-    at zero (x ∷ xs) l all = all.0
-    at (suc i) (x ∷ xs) l all = at i xs (omega arith) all.1
-
 -- The state: `cs`, with the cuts of the first `k` blocks put in, stands at the front, `n` long
 pub record Gathering (lim : ℕ) (cs los his old out : List ℕ) (n k : ℕ) : Type 0 where
   pub k-in : k ≤ length los
   pub same : length out ≡ length old
   pub held : Holds old (add_cuts lim cs (edges_of (take k los) (take k his))) out n
-
-pub gathering_none : (lim : ℕ) (los his old : List ℕ) (n : ℕ) → n ≤ length old → Gathering lim (take n old) los his old old n 0
-gathering_none lim los his old n h = record { k-in = omega arith; same = refl; held = holds-none old n h }
 
 pub gathering_few : (lim : ℕ) (cs los his old out : List ℕ) (n k : ℕ) → Gathering lim cs los his old out n k → n ≤ length cs + 2 * k
 gathering_few lim cs los his old out n k s =
@@ -180,9 +169,6 @@ module _ (lim : ℕ) (cs los his old out : List ℕ) (n k : ℕ) (s : Gathering 
       (All_map (add_cut lim (take n out) (get_or los k 0)) (λ x h. omega arith)
       (adds-all (λ x. x ≤ get_or los k 0) lim (take n out) (get_or los k 0 ∷ []) (gathering_most b l a) (omega arith, tt)))
 
-  pub gathering_done : length los ≤ k → length los ≡ length his → Holds old (add_cuts lim cs (edges_of los his)) out n
-  gathering_done l e = rw (take_all k los l, take_all k his (omega arith)) at s.held
-
 -- A run of cuts merged into another is the same as its edges put in one by one
 pub merged : (lim : ℕ) (cs es : List ℕ) → Asc 1 cs → adds cs (add_cuts lim [] es) ≡ add_cuts lim cs es
 merged lim cs es a =
@@ -218,8 +204,3 @@ module _ (lim : ℕ) (los his old one : List ℕ) (m : ℕ) (h : Holds old (add_
 
     pub merge-whole : (new : List ℕ) (t : ℕ) → Holds run (take r both) new t → Holds run (add_cuts lim (take n run) (edges_of los his)) new t
     merge-whole new t j = rw merge-taken at j
-
--- a list without blocks adds no cut
-pub none_added : (lim n : ℕ) (los his run : List ℕ) → length los ≡ 0 → n ≤ length run → Holds run (add_cuts lim (take n run) (edges_of los his)) run n
-none_added lim n [] his run e l = record { count = sym (length-take-le n run l); whole = sym (take-append-drop n run) }
-none_added lim n (x ∷ los) his run e l = absurd (omega arith)

@@ -7,7 +7,7 @@ use native.Mathlib.Omega.{arith}
 use lib.Dec.{ltb, eqb}
 use lib.ListN.{length, get_or, take, set, length-set}
 use lib.Seq.{length-take-le, get_or-take}
-use borrow.Author.Tests.{ltb-true, ltb-false, lt-ltb, le-ltb, le-leb, lt-leb, eqb-true, eq-eqb}
+use borrow.Author.Tests.{ltb-true, ltb-false, lt-ltb, le-ltb, le-leb, eqb-true, eq-eqb}
 use Rattle.model.specs.Runs.{add, has, Asc, All, Holds}
 use Rattle.prune.specs.Cut.{keeps_cut, add_cut}
 use Rattle.model.proofs.Lists.{split, both_ways, or_true, All_map}
@@ -51,12 +51,6 @@ add-grows c (x ∷ xs) =
 
 -- A cut that is dropped, and one that is kept
 module _ (lim c : ℕ) (cs : List ℕ) where
-  pub cut_low : c ≤ 1 → add_cut lim cs c ≡ cs
-  cut_low l = rw (le-ltb 1 c l)
-
-  pub cut_high : lim < c → add_cut lim cs c ≡ cs
-  cut_high l = split (ltb 1 c) (λ e. rw (e, lt-leb c lim l)) (λ e. rw e)
-
   pub cut-kept : 1 < c → c ≤ lim → add_cut lim cs c ≡ add c cs
   cut-kept l h = rw (lt-ltb 1 c l, le-leb c lim h)
 
@@ -68,12 +62,6 @@ module _ (lim c : ℕ) (cs : List ℕ) where
 
 -- The ways out of `push_cut`
 module _ (lim c n : ℕ) (out : List ℕ) (room : n < length out) where
-  pub push_low : c ≤ 1 → Holds out (add_cut lim (take n out) c) out n
-  push_low l = rw (cut_low lim c (take n out) l) (holds-none out n (omega arith))
-
-  pub push_high : lim < c → Holds out (add_cut lim (take n out) c) out n
-  push_high l = rw (cut_high lim c (take n out) l) (holds-none out n (omega arith))
-
   pub push_same : 1 < c → c ≤ lim → 0 < n → Asc 1 (take n out) → get_or out (n - 1) 0 ≡ c → Holds out (add_cut lim (take n out) c) out n
   push_same l h p a e =
       let q : get_or (take n out) (n - 1) 0 ≡ c = get_or-take n out (n - 1) 0 (omega arith) ∙ e in

@@ -3,14 +3,14 @@ use Prim.Native.Nat.{ℕ, ◌+◌, ◌-◌, ◌*◌, ◌≤◌, ◌<◌}
 use mathlib.Core.Path.{◌≡◌, refl, ap, ◌∙◌}
 use mathlib.Core.List.{List, [], ◌∷◌}
 use native.Mathlib.Omega.{arith}
-use lib.ListN.{length, get_or, take, drop, length-drop, drop_of_length-le}
+use lib.ListN.{length, get_or, take, drop, length-drop}
 use lib.Seq.{length-take-le}
 use Rattle.model.specs.Runs.{Asc, Holds}
 use Rattle.prune.specs.Cut.{Listing, all_edges, add_cuts, cuts}
 use Rattle.prune.proofs.Cuts.{adds_asc}
-use Rattle.prune.specs.Gather.{Blocks, edges_of, part, flat_edges, Fine}
+use Rattle.prune.specs.Gather.{edges_of, part, flat_edges, Fine}
 use Rattle.prune.proofs.Merges.{drop_at}
-use Rattle.model.proofs.Storing.{holds-take, holds_trans, holds-none}
+use Rattle.model.proofs.Storing.{holds-take, holds_trans}
 use Rattle.prune.proofs.Gathers.{cuts-append, adds-few, edges_few}
 use Rattle.prune.proofs.Listings.{leasts, greatests, edges-of, adds_grow}
 
@@ -23,18 +23,6 @@ pub record Walking (lim : ℕ) (ends los his old run : List ℕ) (n f t : ℕ) :
   pub rest : add_cuts lim [] (flat_edges 0 ends los his) ≡ add_cuts lim (take n run) (flat_edges f (drop t ends) los his)
   pub asc : Asc 1 (take n run)
   pub held : Holds old (take n run) run n
-
-pub walking_none : (lim : ℕ) (ends los his old : List ℕ) → Fine lim 0 ends los his → Walking lim ends los his old old 0 0 0
-walking_none lim ends los his old g = record {
-  t_in = omega arith;
-  same = refl;
-  few = omega arith;
-  f_in = omega arith;
-  fine = g;
-  rest = refl;
-  asc = tt;
-  held = holds-none old 0 (omega arith);
-}
 
 module _ (lim : ℕ) (ends los his old run : List ℕ) (n f t : ℕ) (s : Walking lim ends los his old run n f t) (l : t < length ends) where
   -- the next list
@@ -75,19 +63,6 @@ module _ (lim : ℕ) (ends los his old run : List ℕ) (n f t : ℕ) (s : Walkin
 
       most : r ≤ 2 * e
       most = omega (arith, h.count, adds-few lim (take n run) es, edges_few (part f e los) (part f e his), part_length los next_fine.0 next_fine.1, next_fine.0, size, s.few)
-
-  pub walking_asks : 2 * length los ≤ length old → length old ≤ 1024 → lim < 4294967295
-      → Blocks lim (part f (get_or ends t 0) los) (part f (get_or ends t 0) his) × (lim < 4294967295)
-      × (n + 2 * length (part f (get_or ends t 0) los) ≤ length run) × Asc 1 (take n run) × (length (part f (get_or ends t 0) los) ≤ 64) × (length run ≤ 1024)
-  walking_asks a b m =
-      let p : length (part f (get_or ends t 0) los) ≡ get_or ends t 0 - f = part_length los next_fine.0 next_fine.1 in
-      (next_fine.4, m, omega (arith, next_fine.0, next_fine.1, s.few, s.same), s.asc, omega (arith, next_fine.3), omega (arith, s.same))
-
-pub walking_done : (lim : ℕ) (ends los his old run : List ℕ) (n f t : ℕ) → Walking lim ends los his old run n f t → length ends ≤ t
-    → Holds old (add_cuts lim [] (flat_edges 0 ends los his)) run n
-walking_done lim ends los his old run n f t s l =
-    let q : add_cuts lim [] (flat_edges 0 ends los his) ≡ take n run = s.rest ∙ rw (drop_of_length-le ends l) in
-    rw q s.held
 
 -- The parts spell the query's lists: then what is gathered is `cuts`
 abbrev pub Spells : ℕ → List ℕ → List ℕ → List ℕ → List Listing → Type 0

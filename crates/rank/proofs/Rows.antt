@@ -6,7 +6,7 @@ use mathlib.Core.List.{List, [], ◌∷◌, ◌++◌}
 use native.Mathlib.Omega.{arith}
 use native.Mathlib.Numerals.{add-one}
 use lib.ListN.{length, take, drop, get_or, set, length-append, length-take, length-drop, get_or-eq_default}
-use lib.Seq.{take_all, take-suc, take-take, take_at, drop_at, drop-cons, set_at, get_or_at, get_or-take, length-take-le, append_snoc}
+use lib.Seq.{take_all, take-take, take_at, drop_at, get_or-take, length-take-le}
 use lib.Dec.{ltb}
 use borrow.Author.Tests.{ltb-true, ltb-false}
 use Rattle.model.proofs.Lists.{split}
@@ -15,28 +15,13 @@ use Rattle.model.specs.Post.{docs, scores, post, postings}
 use Rattle.rank.proofs.Ranks.{insert_ordered, take_ordered}
 use Rattle.rank.proofs.Places.{insert-at, behind-before}
 use Rattle.rank.specs.Keep.{put_at}
+use Rattle.std.specs.List.{copy_within}
 
 -- An element put in
-pub put-here {ℓ} : {A : Type ℓ} (p : ℕ) (x z : A) (a : List A) → p ≤ length a → get_or (put_at p x a) p z ≡ x
-put-here zero x z a l = refl
-put-here (suc p) x z [] l = absurd (omega arith)
-put-here (suc p) x z (y ∷ ys) l = put-here p x z ys (omega arith)
-
-pub put-past {ℓ} : {A : Type ℓ} (p i : ℕ) (x z : A) (a : List A) → p ≤ i → get_or (put_at p x a) (suc i) z ≡ get_or a i z
-put-past zero i x z a l = refl
-put-past (suc p) zero x z a l = absurd (omega arith)
-put-past (suc p) (suc i) x z [] l = refl
-put-past (suc p) (suc i) x z (y ∷ ys) l = put-past p i x z ys (omega arith)
-
 pub put-length {ℓ} : {A : Type ℓ} (p : ℕ) (x : A) (a : List A) → length (put_at p x a) ≡ suc (length a)
 put-length zero x a = refl
 put-length (suc p) x [] = refl
 put-length (suc p) x (y ∷ ys) = ap suc (put-length p x ys)
-
-pub put_front {ℓ} : {A : Type ℓ} (p : ℕ) (x : A) (a : List A) → p ≤ length a → take p (put_at p x a) ++ drop p a ≡ a
-put_front zero x a l = refl
-put_front (suc p) x [] l = absurd (omega arith)
-put_front (suc p) x (y ∷ ys) l = ap {B = List _} (λ t. y ∷ t) (put_front p x ys (omega arith))
 
 pub put-take {ℓ} : {A : Type ℓ} (p n : ℕ) (x : A) (xs : List A) → p ≤ n → n ≤ length xs → put_at p x (take n xs) ≡ take (suc n) (put_at p x xs)
 put-take zero n x xs l m = refl
@@ -44,19 +29,18 @@ put-take (suc p) zero x xs l m = absurd (omega arith)
 put-take (suc p) (suc n) x [] l m = refl
 put-take (suc p) (suc n) x (y ∷ ys) l m = ap {B = List _} (λ t. y ∷ t) (put-take p n x ys (omega arith) (omega arith))
 
--- One turn of `open_at`
-module _ (a : List ℕ) (p x i : ℕ) (from : p ≤ i) (upto : i < length a) where
-  pub open_step : set (take i (put_at p x a) ++ drop i a) i (get_or (put_at p x a) i 0) ≡ take (i + 1) (put_at p x a) ++ drop (i + 1) a
-  open_step =
-      let long : length (put_at p x a) ≡ suc (length a) = put-length p x a in
-      rw (add-one i, drop-cons a i 0 upto, set_at (take i (put_at p x a)) (get_or a i 0) (drop (suc i) a) (get_or (put_at p x a) i 0) i (length-take-le i (put_at p x a) (omega arith)), take-suc (put_at p x a) i 0 (omega arith))
-      (sym (append_snoc (take i (put_at p x a)) (get_or (put_at p x a) i 0) (drop (suc i) a)))
+-- Those from `p` up to the place before `e` moved one place on, and `x` stored at `p`
+opened {ℓ} : {A : Type ℓ} (p m : ℕ) (x : A) (a : List A) → p + m < length a
+    → set (take (suc p) a ++ take m (drop p a) ++ drop (suc (p + m)) a) p x ≡ take (suc (p + m)) (put_at p x a) ++ drop (suc (p + m)) a
+opened p m x [] l = absurd (omega arith)
+opened zero m x (y ∷ ys) l = let z : 0 + m ≡ m = omega arith in rw z
+opened (suc p) m x (y ∷ ys) l = let z : suc p + m ≡ suc (p + m) = omega arith in rw z (ap {B = List _} (λ t. y ∷ t) (opened p m x ys (omega arith)))
 
-  pub open_next : get_or (take i (put_at p x a) ++ drop i a) i 0 ≡ get_or (put_at p x a) (i + 1) 0
-  open_next =
-      let long : length (put_at p x a) ≡ suc (length a) = put-length p x a in
-      rw (add-one i, drop-cons a i 0 upto, put-past p i x 0 a from)
-      (get_or_at (take i (put_at p x a)) (get_or a i 0) (drop (suc i) a) 0 i (length-take-le i (put_at p x a) (omega arith)))
+pub open-whole : (p e x : ℕ) (a : List ℕ) → p < e → e ≤ length a → set (copy_within a p (e - 1) (p + 1)) p x ≡ take e (put_at p x a) ++ drop e a
+open-whole p e x a l fits =
+    let q : suc p + (e - 1 - p) ≡ e = omega arith in
+    let r : suc (p + (e - 1 - p)) ≡ e = omega arith in
+    rw (add-one p, q) (rw r at (opened p (e - 1 - p) x a (omega arith)))
 
 -- Rows
 pub rows-length : (ds ss : List ℕ) → length ds ≡ length ss → length (postings ds ss) ≡ length ds

@@ -1,12 +1,14 @@
 -- Laws of heads, for the loops over them. Assumes nothing.
 use Prim.Native.Nat.{ℕ, zero, suc, ◌+◌, ◌*◌, ◌≤◌, ◌<◌, min}
 use mathlib.Core.Path.{◌≡◌, refl, sym, ap, ◌∙◌}
-use mathlib.Core.List.{List, [], ◌∷◌, ◌++◌, map, map-append}
+use mathlib.Core.Bool.{cond}
+use mathlib.Core.List.{List, [], ◌∷◌, ◌++◌, map, map-append, append-nil}
 use native.Mathlib.Omega.{arith}
 use native.Mathlib.Nat.{min-le_right, min-eq_left, min-eq_right, mul-le-mul}
 use native.Mathlib.Numerals.{add-one}
-use lib.ListN.{length, take, drop, get_or, set, take-append-drop}
-use lib.Seq.{drop-cons}
+use lib.ListN.{length, take, drop, get_or, set, take-append-drop, drop_of_length-le}
+use lib.Seq.{drop-cons, take_all}
+use lib.Dec.{eqb}
 use borrow.Author.Tests.{eq-eqb, ne_eqb}
 use Rattle.model.specs.Runs.{All}
 use Rattle.model.proofs.Lists.{map-turn, map_stay, map-here}
@@ -20,12 +22,12 @@ pub least-top : (hs : List Head) → least hs ≤ none
 least-top [] = omega arith
 least-top (h ∷ hs) = omega (arith, min-le_right h.doc (least hs), least-top hs)
 
-pub least-turn : (hs : List Head) (i m n : ℕ) → i < length hs → n ≡ min m (get_or hs i blank).doc → min m (least (drop i hs)) ≡ min n (least (drop (i + 1) hs))
-least-turn hs i m n l e = rw (e, add-one i, drop-cons hs i blank l) (omega arith)
-
 -- Heads at their lists' ends
-pub idle-turn : (hs : List Head) (i : ℕ) → i < length hs → none ≤ (get_or hs i blank).doc → Idle (i + 1) hs → Idle i hs
-idle-turn hs i l d a = rw (drop-cons hs i blank l) (d, rw (add-one i) at a)
+pub idle-each : (hs : List Head) (n : ℕ) → ((k : ℕ) → n ≤ k → k < length hs → none ≤ (get_or hs k blank).doc) → Idle n hs
+idle-each [] zero f = tt
+idle-each [] (suc n) f = tt
+idle-each (h ∷ hs) zero f = (f 0 (omega arith) (omega arith), idle-each hs zero (λ k l m. f (suc k) (omega arith) (omega arith)))
+idle-each (h ∷ hs) (suc n) f = idle-each hs n (λ k l m. f (suc k) (omega arith) (omega arith))
 
 least-idle : (hs : List Head) → All (λ h. none ≤ h.doc) hs → least hs ≡ none
 least-idle [] a = refl
@@ -39,17 +41,35 @@ step-idle : (ds ss : List ℕ) (d : ℕ) (hs : List Head) → d < none → All (
 step-idle ds ss d [] l a = refl
 step-idle ds ss d (h ∷ hs) l a = rw (ne_eqb h.doc d (λ e. omega (arith, a.0)), step-idle ds ss d hs l a.1)
 
-pub least-past : (hs : List Head) (i m : ℕ) → Idle i hs → m ≤ none → min m (least (drop i hs)) ≡ m
-least-past hs i m a t = rw (least-idle (drop i hs) a) (min-eq_left t)
+least-front : (hs : List Head) (n : ℕ) → Idle n hs → least (take n hs) ≡ least hs
+least-front hs zero a = sym (least-idle hs a)
+least-front [] (suc n) a = refl
+least-front (h ∷ hs) (suc n) a = ap (min h.doc) (least-front hs n a)
 
-pub sum_past : (d : ℕ) (hs : List Head) (i m : ℕ) → d < none → Idle i hs → m + sum_at d (drop i hs) ≡ m
-sum_past d hs i m l a = rw (sum-idle d (drop i hs) l a) (omega arith)
+sum_front : (d : ℕ) (hs : List Head) (n : ℕ) → d < none → Idle n hs → sum_at d (take n hs) ≡ sum_at d hs
+sum_front d hs zero l a = sym (sum-idle d hs l a)
+sum_front d [] (suc n) l a = refl
+sum_front d (h ∷ hs) (suc n) l a = ap (λ t. cond (eqb h.doc d) (h.weight * h.score) 0 + t) (sum_front d hs n l a)
 
-pub step_past : (ds ss : List ℕ) (d : ℕ) (hs : List Head) (i : ℕ) → d < none → Idle i hs → map (step_if ds ss d) (take i hs) ++ drop i hs ≡ map (step_if ds ss d) hs
+step_past : (ds ss : List ℕ) (d : ℕ) (hs : List Head) (i : ℕ) → d < none → Idle i hs → map (step_if ds ss d) (take i hs) ++ drop i hs ≡ map (step_if ds ss d) hs
 step_past ds ss d hs i l a =
     ap {B = List Head} (λ t. map (step_if ds ss d) (take i hs) ++ t) (sym (step-idle ds ss d (drop i hs) l a))
     ∙ sym (map-append (step_if ds ss d) (take i hs) (drop i hs))
     ∙ ap (map (step_if ds ss d)) (take-append-drop i hs)
+
+-- After the passes over the first n heads
+module _ (hs : List Head) (n i : ℕ) (a : Idle n hs) (l : length (take n hs) ≤ i) where
+  pub least-done : (m : ℕ) → m ≤ none → least (take n hs) ≡ min m (least (drop i (take n hs))) → m ≡ least hs
+  least-done m t e = sym (rw (drop_of_length-le (take n hs) l, min-eq_left t) at e) ∙ least-front hs n a
+
+  pub sum-done : (d s : ℕ) → d < none → sum_at d (take n hs) ≡ s + sum_at d (drop i (take n hs)) → s ≡ sum_at d hs
+  sum-done d s b e =
+      let f : sum_at d (take n hs) ≡ s + 0 = rw (drop_of_length-le (take n hs) l) at e in
+      omega (arith, sum_front d hs n b a)
+
+  pub step-done : (ds ss : List ℕ) (d : ℕ) (front : List Head) → d < none → front ≡ map (step_if ds ss d) (take i (take n hs)) ++ drop i (take n hs) → front ++ drop n hs ≡ map (step_if ds ss d) hs
+  step-done ds ss d front b e =
+      rw (e, take_all i (take n hs) l, drop_of_length-le (take n hs) l, append-nil (map (step_if ds ss d) (take n hs))) (step_past ds ss d hs n b a)
 
 pub idle-step : (ds ss : List ℕ) (d : ℕ) (hs : List Head) (i : ℕ) → d < none → Idle i hs → Idle i (map (step_if ds ss d) hs)
 idle-step ds ss d hs zero l a = rw (step-idle ds ss d hs l a) a

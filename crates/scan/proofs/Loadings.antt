@@ -20,10 +20,10 @@ use Rattle.block.proofs.Contents.{right-run}
 use Rattle.rank.specs.Match.{Term}
 use Rattle.rank.specs.Run.{none}
 use Rattle.scan.specs.Heads.{roomy, part_of, between, InBuffers, OwnPart, next_head, head_posts, term_of}
-use Rattle.scan.specs.Load.{Loadable, head_of, Loads}
+use Rattle.scan.specs.Load.{Loadable, head_of, wrong_body, Loads}
 use Rattle.scan.specs.declared.head.Head.{Head}
-use Rattle.scan.specs.declared.load.Loaded.{Loaded}
-use Rattle.scan.specs.declared.load.Loaded.TheVariants.{Stands, Wrong}
+use Rattle.std.specs.Prelude.{Result, Ok, Err}
+use Rattle.scan.specs.declared.load.WrongBody.{WrongBody}
 use Rattle.block.proofs.Runs.{run-few}
 use Rattle.scan.proofs.Parts.{slice-stored, slice_apart}
 use Rattle.scan.proofs.Terms.{between_cons, next-term, next-stays, next-own}
@@ -150,42 +150,42 @@ load-room m s t ds ss l =
     record { mine = l.mine; few = omega (arith, f.0, l.most); low = docs-below m.greatest (body_run m s) l.below f.1; docids = l.docids; scored = l.scored }
 
 pub load-right : (m : Summary) (s : List ℕ) (weight t : ℕ) (ds ss ds' ss' : List ℕ) → Loadable m t ds ss → ReadsInto m s (part_of t) ds ss ds' ss' true
-    → Loads m s weight t ds ss ds' ss' (Stands (record { doc = get_or ds' (part_of t) 0; score = get_or ss' (part_of t) 0; weight = weight; at = part_of t + 1; end = part_of t + m.count }))
+    → Loads m s weight t ds ss ds' ss' (Ok (record { doc = get_or ds' (part_of t) 0; score = get_or ss' (part_of t) 0; weight = weight; at = part_of t + 1; end = part_of t + m.count }))
 load-right m s weight t ds ss ds' ss' l r =
     record {
-      answer = rw (sym r.right, r.docids, r.scored) (ap Stands (sym (head-code weight t m.count (body_run m s) ds ss (load-room m s t ds ss l) (right-run m s (sym r.right)).2 l.some)));
+      answer = rw (sym r.right, r.docids, r.scored) (ap Ok (sym (head-code weight t m.count (body_run m s) ds ss (load-room m s t ds ss l) (right-run m s (sym r.right)).2 l.some)));
       docids = r.docids;
       scored = r.scored;
     }
 
-pub load-wrong : (m : Summary) (s : List ℕ) (weight t : ℕ) (ds ss ds' ss' : List ℕ) → ReadsInto m s (part_of t) ds ss ds' ss' false → Loads m s weight t ds ss ds' ss' Wrong
+pub load-wrong : (m : Summary) (s : List ℕ) (weight t : ℕ) (ds ss ds' ss' : List ℕ) → ReadsInto m s (part_of t) ds ss ds' ss' false → Loads m s weight t ds ss ds' ss' (Err wrong_body)
 load-wrong m s weight t ds ss ds' ss' r = record { answer = rw (sym r.right); docids = r.docids; scored = r.scored }
 
 -- ---- what a caller learns of the answer
 module _ (m : Summary) (s : List ℕ) (weight t : ℕ) (ds ss ds' ss' : List ℕ) (ok : Loadable m t ds ss) where
   -- the list stands exactly where its body is right, and then has the body's postings
-  pub load_stands : (h : Head) → Loads m s weight t ds ss ds' ss' (Stands h) → (right_body m s ≡ true) × Stood weight t (body_run m s) ds' ss' h
+  pub load_stands : (h : Head) → Loads m s weight t ds ss ds' ss' (Ok h) → (right_body m s ≡ true) × Stood weight t (body_run m s) ds' ss' h
   load_stands h l =
       split (right_body m s)
-      (λ e. let a : Stands h ≡ Stands (head_of weight t (body_run m s)) = rw e at l.answer in
+      (λ e. let a : Ok h ≡ Ok (head_of weight t (body_run m s)) = rw e at l.answer in
       let q : h ≡ head_of weight t (body_run m s) = cc in
       (e, rw (q, l.docids, l.scored) (stood weight t (body_run m s) ds ss (load-room m s t ds ss ok))))
-      (λ e. let a : Stands h ≡ Wrong = rw e at l.answer in let z : ◌≡◌ {A = ℕ} 0 1 = cc in absurd (omega arith))
+      (λ e. let a : Ok h ≡ Err wrong_body = rw e at l.answer in let z : ◌≡◌ {A = ℕ} 0 1 = cc in absurd (omega arith))
 
-  pub load-refused : Loads m s weight t ds ss ds' ss' Wrong → right_body m s ≡ false
+  pub load-refused : Loads m s weight t ds ss ds' ss' (Err wrong_body) → right_body m s ≡ false
   load-refused l =
       split (right_body m s)
-      (λ e. let a : Wrong ≡ Stands (head_of weight t (body_run m s)) = rw e at l.answer in let z : ◌≡◌ {A = ℕ} 0 1 = cc in absurd (omega arith))
+      (λ e. let a : Err wrong_body ≡ Ok (head_of weight t (body_run m s)) = rw e at l.answer in let z : ◌≡◌ {A = ℕ} 0 1 = cc in absurd (omega arith))
       (λ e. e)
 
   -- and every list in another part has what it had, whatever the answer
-  pub load-others : {r : Loaded} → Loads m s weight t ds ss ds' ss' r → (u : ℕ) (h : Head) → OwnPart u h → (u ≡ t → ⊥)
+  pub load-others : {r : Result Head WrongBody} → Loads m s weight t ds ss ds' ss' r → (u : ℕ) (h : Head) → OwnPart u h → (u ≡ t → ⊥)
       → (term_of ds' ss' h ≡ term_of ds ss h) × (InBuffers ds ss h → InBuffers ds' ss' h)
   load-others l u h o n =
       let r = load-room m s t ds ss ok in
       rw (l.docids, l.scored) (other-term t u (body_run m s) ds ss r h o n, other-inside t u (body_run m s) ds ss r h o n)
 
-  pub load-long : {r : Loaded} → Loads m s weight t ds ss ds' ss' r → (length ds' ≡ roomy) × (length ss' ≡ roomy)
+  pub load-long : {r : Result Head WrongBody} → Loads m s weight t ds ss ds' ss' r → (length ds' ≡ roomy) × (length ss' ≡ roomy)
   load-long l =
       let r = load-room m s t ds ss ok in
       (ap length l.docids ∙ docs_stay t (body_run m s) ds ss r, ap length l.scored ∙ scores_stay t (body_run m s) ds ss r)

@@ -1,5 +1,5 @@
 -- A block loaded: its postings as far as they read stand in its list's part of the buffers, and the list's head at the first of them. Assumes nothing.
-use Rattle.std.specs.Prelude.{ℕ, ◌+◌, ◌≤◌, ◌<◌, ◌≡◌, cond, List, [], ◌∷◌, length}
+use Rattle.std.specs.Prelude.{ℕ, ◌+◌, ◌≤◌, ◌<◌, ◌≡◌, cond, List, [], ◌∷◌, length, Result, Ok, Err}
 use Rattle.std.proofs.lemmas.List.Edits.{sets}
 use Rattle.model.specs.Limits.{max_docid, per_block, max_terms}
 use Rattle.model.specs.Post.{Post, docs, scores}
@@ -8,8 +8,7 @@ use Rattle.block.specs.Body.{right_body, body_run}
 use Rattle.block.specs.declared.summary.Summary.{Summary}
 use Rattle.scan.specs.Heads.{roomy, part_of}
 use Rattle.scan.specs.declared.head.Head.{Head}
-use Rattle.scan.specs.declared.load.Loaded.{Loaded}
-use Rattle.scan.specs.declared.load.Loaded.TheVariants.{Stands, Wrong}
+use Rattle.scan.specs.declared.load.WrongBody.{WrongBody}
 
 -- what a right summary says, and a list that has a part
 pub record Loadable (m : Summary) (t : ℕ) (ds ss : List ℕ) : Type 0 where
@@ -26,7 +25,11 @@ unfoldable pub head_of : (weight t : ℕ) → List Post → Head
 head_of weight t [] = record { doc = none; score = 0; weight = weight; at = part_of t; end = part_of t }
 head_of weight t (p ∷ ps) = record { doc = p.doc; score = p.score; weight = weight; at = part_of t + 1; end = part_of t + length (p ∷ ps) }
 
-pub record Loads (m : Summary) (body : List ℕ) (weight t : ℕ) (ds ss ds' ss' : List ℕ) (r : Loaded) : Type 0 where
-  pub answer : r ≡ cond (right_body m body) (Stands (head_of weight t (body_run m body))) Wrong
+-- a wrong body is told apart from no other
+abbrev pub wrong_body : WrongBody
+wrong_body = record {}
+
+pub record Loads (m : Summary) (body : List ℕ) (weight t : ℕ) (ds ss ds' ss' : List ℕ) (r : Result Head WrongBody) : Type 0 where
+  pub answer : r ≡ cond (right_body m body) (Ok (head_of weight t (body_run m body))) (Err wrong_body)
   pub docids : ds' ≡ sets ds (part_of t) (docs (body_run m body))
   pub scored : ss' ≡ sets ss (part_of t) (scores (body_run m body))

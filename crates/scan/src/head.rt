@@ -22,23 +22,18 @@ impl Head {
         requires { InBuffers docs.now scores.now self }
         ensures { result ≡ next_head docs.now scores.now self }
     {
-        let at = self.at;
-        let end = self.end;
-        if at < end {
+        if self.at < self.end {
             return Head {
-                doc: docs[at],
-                score: scores[at],
-                weight: self.weight,
-                at: at + 1,
-                end: end,
+                doc: docs[self.at],
+                score: scores[self.at],
+                at: self.at + 1,
+                ..self
             };
         }
         Head {
             doc: END,
             score: 0,
-            weight: self.weight,
-            at: at,
-            end: end,
+            ..self
         }
     }
 

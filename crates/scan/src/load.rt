@@ -4,14 +4,11 @@ ghost use Rattle.scan.specs.Load.{Loadable, Loads};
 use crate::head::Head;
 use block::summary::Summary;
 
-// The head at the body's first posting; or the body is wrong.
-#[derive(Drop)]
-pub enum Loaded {
-    Stands(Head),
-    Wrong,
-}
+// A body that is wrong for its summary.
+#[derive(Clone, Copy, Debug, PartialEq, Eq)]
+pub struct WrongBody;
 
-// The body of a block of list t, whose part of the buffers is a hundred long.
+// The body of a block of list t, whose part of the buffers is a hundred long: the head at its first posting.
 pub fn load(
     body: &[u8],
     m: Summary,
@@ -19,7 +16,7 @@ pub fn load(
     t: usize,
     docs: &mut [u32; 800],
     scores: &mut [u16; 800],
-) -> Loaded
+) -> Result<Head, WrongBody>
     requires { Loadable m t docs.old scores.old }
     ensures { Loads m body.now weight t docs.old scores.old docs.new scores.new result }
 {
@@ -28,11 +25,11 @@ pub fn load(
         let head = Head {
             doc: docs[at],
             score: scores[at],
-            weight: weight,
+            weight,
             at: at + 1,
             end: at + (m.count as usize),
         };
-        return Loaded::Stands(head);
+        return Ok(head);
     }
-    Loaded::Wrong
+    Err(WrongBody)
 }

@@ -1,11 +1,11 @@
 // Document-at-a-time scoring with one accumulator, over up to eight lists, up to an interval's last docid.
-ghost use Rattle.std.specs.Prelude.{◌≤◌};
+ghost use Rattle.std.specs.Prelude.{◌≤◌, ◌≡◌, length};
 ghost use Rattle.model.specs.Runs.{All};
 ghost use Rattle.rank.specs.Run.{none};
 ghost use Rattle.scan.specs.Heads.{InBuffers, OwnParts};
 ghost use Rattle.scan.specs.Run.{Idle, Ready, Ran, AllSkipped, Bounds, Searched};
 
-use crate::head::Head;
+use crate::head::{END, Head};
 use rank::keep::Kept;
 
 // After a run: the hits kept, and where the lists stand.
@@ -16,18 +16,14 @@ pub struct After {
 }
 
 // How many heads there are up to the last one that stands at a posting.
-fn in_use(heads: [Head; 8]) -> usize
-    ensures { (result ≤ 8) × Idle result heads }
+fn in_use(heads: &[Head; 8]) -> usize
+    requires { length heads.now ≡ 8 }
+    ensures { (result ≤ 8) × Idle result heads.now }
 {
-    let mut n: usize = 8;
-    while 0 < n {
-        let h = heads[n - 1];
-        if h.doc < crate::head::END {
-            return n;
-        }
-        n -= 1;
+    match heads.iter().rposition(|h| h.doc < END) {
+        Some(i) => i + 1,
+        None => 0,
     }
-    0
 }
 
 // The documents up to the last docid: each is scored and handed to the keeper. Both passes over the heads stand here, so that no array of heads is handed on;
@@ -43,42 +39,30 @@ pub fn run(
     requires { Ready docs.now scores.now heads last k kept }
     ensures { Ran docs.now scores.now heads last k kept result }
 {
-    let m = in_use(heads);
+    let m = in_use(&heads);
     let mut hs = heads;
     let mut best = kept.docids;
     let mut sums = kept.scores;
     let mut n = kept.n;
     loop {
-        let mut d: u32 = crate::head::END;
-        let mut i: usize = 0;
-        while i < m {
-            let h = hs[i];
-            let e = h.doc;
-            if e < d {
-                d = e;
-            }
-            i += 1;
+        let mut d = END;
+        for h in &hs[..m] {
+            d = d.min(h.doc);
         }
         if last < d {
-            let all = Kept {
+            let kept = Kept {
                 docids: best,
                 scores: sums,
-                n: n,
+                n,
             };
-            return After {
-                kept: all,
-                heads: hs,
-            };
+            return After { kept, heads: hs };
         }
-        let mut s: u32 = 0;
-        let mut j: usize = 0;
-        while j < m {
-            let h = hs[j];
+        let mut s = 0;
+        for h in hs[..m].iter_mut() {
             if h.doc == d {
                 s += (h.weight as u32) * (h.score as u32);
-                hs[j] = h.next(docs, scores);
+                *h = h.next(docs, scores);
             }
-            j += 1;
         }
         n = rank::keep::offer_in(&mut best, &mut sums, n, k, d, s);
     }
@@ -95,11 +79,8 @@ pub(crate) fn skip_all(
     ensures { AllSkipped docs.now scores.now first heads result }
 {
     let mut hs = heads;
-    let mut i: usize = 0;
-    while i < 8 {
-        let h = hs[i];
-        hs[i] = h.skipped(docs, scores, first);
-        i += 1;
+    for h in hs.iter_mut() {
+        *h = h.skipped(docs, scores, first);
     }
     hs
 }

@@ -4,12 +4,22 @@ ghost use Rattle.std.specs.Prelude.{◌<◌};
 // The multiplicative generator of Park and Miller: its states are 1 to 2,147,483,646.
 const MODULUS: u64 = 2147483647;
 
-// A number below n, by the state, which moves on.
-pub(crate) fn draw(seed: &mut u64, n: u64) -> u64
-    requires { 0 < n }
-    ensures { result < n }
-{
-    let moved = *seed % MODULUS * 48271 % MODULUS;
-    *seed = moved;
-    moved / 8 % n
+#[derive(Clone, Copy)]
+pub(crate) struct Chance {
+    state: u64,
+}
+
+impl Chance {
+    pub(crate) fn new(seed: u64) -> Chance {
+        Chance { state: seed }
+    }
+
+    // A number below n, by the state, which moves on.
+    pub(crate) fn draw(&mut self, n: usize) -> usize
+        requires { 0 < n }
+        ensures { result < n }
+    {
+        self.state = self.state % MODULUS * 48271 % MODULUS;
+        (self.state / 8) as usize % n
+    }
 }

@@ -1,60 +1,47 @@
 // The table's postings in small blocks, so that a search has many intervals.
+use crate::answers::check;
+use crate::bench::Bench;
+use crate::bytes::Bytes;
+use crate::comparing::compare_any;
+use crate::damage::damage_often;
+use crate::limits::is_turned;
+use crate::table::{TERMS, term_number};
+use crate::writing::cut;
 
-// Queries to a shelf that the checker finds sound.
-fn ask_often(table: &[u16], shelf: &[u8], times: u64, seed: &mut u64, tally: &mut [u64]) {
-    let mut i = 0;
-    while i < times {
-        crate::comparing::compare_any(table, shelf, seed, tally);
-        i += 1;
+impl Bench {
+    // A list of the shelf cut anew, converted: the shelf is then cut alike with that list in the other layout, and converted again it is itself.
+    fn turn_one(&mut self) {
+        let term = self.chance.draw(TERMS);
+        if !self.table.is_listed(term) {
+            return;
+        }
+        let mut again = self.chance;
+        let mut other = Bytes::new();
+        cut(&self.table, &mut self.chance, &mut self.fresh);
+        self.table.turn(term);
+        cut(&self.table, &mut again, &mut other);
+        self.table.turn(term);
+        let number = term_number(term);
+        let there = is_turned(self.fresh.as_slice(), number, other.as_slice());
+        let back = is_turned(other.as_slice(), number, self.fresh.as_slice());
+        self.tally.expect(there && back);
     }
-}
 
-// A list of the shelf cut anew, converted: the shelf is then cut alike with that list in the other layout, and converted again it is itself.
-fn turn_one(
-    table: &mut [u16],
-    seed: &mut u64,
-    out: &mut [u8],
-    fresh: &mut [u8],
-    tally: &mut [u64],
-) {
-    let term = crate::chance::draw(seed, 16) as usize;
-    if !crate::table::listed(table, term) {
-        return;
+    // The shelf cut anew, searched, and damaged.
+    fn cut_once(&mut self, times: usize) {
+        cut(&self.table, &mut self.chance, &mut self.fresh);
+        let shelf = self.fresh.as_mut_slice();
+        self.tally.expect(check(shelf).is_ok());
+        for _ in 0..times {
+            compare_any(&self.table, shelf, &mut self.chance, &mut self.tally);
+        }
+        damage_often(shelf, times, &mut self.chance, &mut self.tally);
     }
-    let mut again = *seed;
-    let n = crate::writing::cut(table, seed, out);
-    crate::table::turn(table, term);
-    let m = crate::writing::cut(table, &mut again, fresh);
-    crate::table::turn(table, term);
-    let number = crate::table::term_number(term);
-    let ours = crate::total::front8(out, n);
-    let other = crate::total::front8(fresh, m);
-    let there = crate::limits::turned(ours, number, other);
-    let back = crate::limits::turned(other, number, ours);
-    crate::tally::expect(tally, there & back);
-}
 
-// The shelf cut anew, searched, and damaged.
-fn cut_once(table: &[u16], times: u64, seed: &mut u64, out: &mut [u8], tally: &mut [u64]) {
-    let n = crate::writing::cut(table, seed, out);
-    crate::tally::expect(tally, crate::history::sound(crate::total::front8(out, n)));
-    ask_often(table, crate::total::front8(out, n), times, seed, tally);
-    crate::damage::run(out, n, times, seed, tally);
-}
-
-pub(crate) fn run(
-    table: &mut [u16],
-    cuts: u64,
-    times: u64,
-    seed: &mut u64,
-    out: &mut [u8],
-    fresh: &mut [u8],
-    tally: &mut [u64],
-) {
-    let mut i = 0;
-    while i < cuts {
-        turn_one(table, seed, out, fresh, tally);
-        cut_once(table, times, seed, out, tally);
-        i += 1;
+    pub(crate) fn cut_often(&mut self, cuts: usize, times: usize) {
+        for _ in 0..cuts {
+            self.turn_one();
+            self.cut_once(times);
+        }
     }
 }

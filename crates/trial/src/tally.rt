@@ -1,52 +1,101 @@
 // What the trial counts.
-pub(crate) const ACCEPTED: usize = 0;
+use crate::answers::Refusal;
+use std::fmt;
 
-pub(crate) const REFUSED: usize = 1;
+#[derive(Clone, Copy, Default)]
+pub(crate) struct Count(u64);
 
-pub(crate) const CONVERTED: usize = 2;
-
-pub(crate) const UNCONVERTED: usize = 3;
-
-pub(crate) const STRIPS: usize = 4;
-
-pub(crate) const QUERIES: usize = 5;
-
-pub(crate) const HITS: usize = 6;
-
-pub(crate) const INTERVALS: usize = 7;
-
-pub(crate) const BLOCKS: usize = 8;
-
-pub(crate) const OPENED: usize = 9;
-
-pub(crate) const DAMAGED: usize = 10;
-
-pub(crate) const FAULTS: usize = 11;
-
-pub(crate) const CASES: usize = 12;
-
-pub(crate) const DIFFER: usize = 13;
-
-pub(crate) fn add(tally: &mut [u64], kind: usize, n: u64) {
-    if kind < tally.len() {
-        tally[kind] = std::num::wrapping_add_u64(tally[kind], n);
+impl Count {
+    pub(crate) fn add(&mut self, n: usize) {
+        self.0 = self.0.saturating_add(n as u64);
     }
 }
 
-// Counts a difference, unless things are as they must be.
-pub(crate) fn expect(tally: &mut [u64], right: bool) {
-    if right {
-        return;
+impl fmt::Display for Count {
+    fn fmt<W: fmt::Write>(&self, f: &mut fmt::Formatter<W>) -> fmt::Result {
+        let n = self.0;
+        write!(f, "{n}")
     }
-    add(tally, DIFFER, 1);
 }
 
-// Counts a case of the paper's list.
-pub(crate) fn case(tally: &mut [u64], right: bool) {
-    add(tally, CASES, 1);
-    expect(tally, right);
+// What came of edits, or of conversions.
+#[derive(Clone, Copy, Default)]
+pub(crate) struct Outcomes {
+    accepted: Count,
+    refused: Count,
 }
 
-pub(crate) fn of(tally: &[u64], kind: usize) -> u64 {
-    if kind < tally.len() { tally[kind] } else { 0 }
+impl Outcomes {
+    pub(crate) fn count(&mut self, outcome: Result<usize, Refusal>) {
+        match outcome {
+            Ok(_) => self.accepted.add(1),
+            Err(_) => self.refused.add(1),
+        }
+    }
+}
+
+impl fmt::Display for Outcomes {
+    fn fmt<W: fmt::Write>(&self, f: &mut fmt::Formatter<W>) -> fmt::Result {
+        let Outcomes { accepted, refused } = self;
+        write!(f, "accepted {accepted} refused {refused}")
+    }
+}
+
+#[derive(Clone, Copy, Default)]
+pub(crate) struct Tally {
+    pub(crate) edits: Outcomes,
+    pub(crate) conversions: Outcomes,
+    pub(crate) strips: Count,
+    pub(crate) queries: Count,
+    pub(crate) hits: Count,
+    pub(crate) intervals: Count,
+    pub(crate) blocks: Count,
+    pub(crate) opened: Count,
+    pub(crate) damaged: Count,
+    pub(crate) faults: Count,
+    pub(crate) cases: Count,
+    pub(crate) differ: Count,
+}
+
+impl Tally {
+    // Counts a difference, unless things are as they must be.
+    pub(crate) fn expect(&mut self, right: bool) {
+        if !right {
+            self.differ.add(1);
+        }
+    }
+
+    // Counts a case of the paper's list.
+    pub(crate) fn case(&mut self, right: bool) {
+        self.cases.add(1);
+        self.expect(right);
+    }
+}
+
+impl fmt::Display for Tally {
+    fn fmt<W: fmt::Write>(&self, f: &mut fmt::Formatter<W>) -> fmt::Result {
+        let Tally {
+            edits,
+            conversions,
+            strips,
+            queries,
+            hits,
+            intervals,
+            blocks,
+            opened,
+            damaged,
+            faults,
+            cases,
+            differ,
+        } = self;
+        writeln!(f, "edits {edits}")?;
+        writeln!(f, "conversions {conversions} strips {strips}")?;
+        writeln!(
+            f,
+            "queries {queries} hits {hits} intervals {intervals} blocks {blocks} opened {opened}"
+        )?;
+        writeln!(f, "damaged {damaged} faults {faults}")?;
+        writeln!(f, "cases {cases}")?;
+        write!(f, "differ {differ}")
+    }
 }

@@ -1,205 +1,140 @@
 // Shelves of the table: one writing, and the same postings in smaller blocks.
-ghost use Rattle.std.specs.Prelude.{◌<◌, ◌≤◌};
+ghost use Rattle.std.specs.Prelude.{◌<◌};
+ghost use Rattle.trial.specs.declared.table.TheConstants.{TERMS};
 
-use crate::table::TERMS;
-use list::answer::Answer;
+use crate::answers::written;
+use crate::asking::field_of_5;
+use crate::bytes::{Bytes, ROOM};
+use crate::chance::Chance;
+use crate::postings::Run;
+use crate::table::{TERMS, Table, term_number};
 
-// The place past a list that is put at a place, or the place itself where there is nothing to write.
-pub(crate) fn append(
-    out: &mut [u8],
-    at: usize,
-    strip: bool,
-    term: u32,
-    docids: &[u32],
-    scores: &[u16],
-) -> usize {
-    if out.len() < at {
-        return at;
+// Puts a list behind what is held, or nothing where the writer refuses it, as it does a list of no postings.
+pub(crate) fn append<const N: usize>(out: &mut Bytes<N>, strip: bool, term: u32, run: Run) {
+    let at = out.len;
+    let held = &mut out.held[..];
+    let room = &mut held[at..];
+    let answer = list::write::write_list(strip, term, run.docids, run.scores, room);
+    if let Ok(n) = written(answer) {
+        out.len = at.saturating_add(n).min(N);
     }
-    match list::write::write_list(strip, term, docids, scores, &mut out[at..]) {
-        Answer::Done(m) => std::num::wrapping_add_usize(at, m),
-        Answer::Refused(_, _) => at,
-    }
-}
-
-fn append_row(table: &[u16], term: usize, out: &mut [u8], at: usize) -> usize {
-    let mut docids = [0u32; 256];
-    let mut scores = [0u16; 256];
-    let n = crate::table::gather(table, term, &mut docids, &mut scores);
-    let number = crate::table::term_number(term);
-    append(
-        out,
-        at,
-        crate::table::strip_at(table, term),
-        number,
-        crate::total::part32(&docids, 0, n),
-        crate::total::part16(&scores, 0, n),
-    )
 }
 
 // "One writing of a shelf is the writer's lists in rising term number."; the writer is told each list's layout.
-pub(crate) fn one_writing(table: &[u16], out: &mut [u8]) -> usize {
-    let mut at = 0;
-    let mut t = 0;
-    while t < TERMS {
-        at = append_row(table, t, out, at);
-        t += 1;
+pub(crate) fn one_writing(table: &Table, out: &mut Bytes<ROOM>) {
+    out.clear();
+    for term in 0..TERMS {
+        let postings = table.postings(term);
+        append(
+            out,
+            table.is_strip(term),
+            term_number(term),
+            postings.as_run(),
+        );
     }
-    at
 }
 
 // ---- smaller blocks
 
-fn block_end(n: usize, a: usize, size: usize) -> usize
-    requires { (a < n) × (0 < size) }
-    ensures { (a < result) × (result ≤ n) }
-{
-    if n - a <= size { n } else { a + size }
+// A gap number: seven bits a byte, low first, the high bit set on all but the last.
+fn put_gap<const N: usize>(value: &mut Bytes<N>, gap: u32) {
+    let mut left = gap;
+    while 127 < left {
+        value.push(&[(128 + left % 128) as u8]);
+        left /= 128;
+    }
+    value.push(&[left as u8]);
 }
 
-// The gap number before the i-th posting, if it is wanted and there is one: seven bits a byte, low first, the high bit set on all but the last.
-fn put_gap(docids: &[u32], i: usize, wanted: bool, out: &mut [u8], at: usize) -> usize {
-    if !wanted {
-        return at;
-    }
-    if i == 0 {
-        return at;
-    }
-    let before = std::num::wrapping_add_u32(crate::total::at32(docids, i - 1), 1);
-    let mut g = std::num::wrapping_sub_u32(crate::total::at32(docids, i), before);
-    let mut j = at;
-    while 127 < g {
-        crate::total::put8(out, j, (128 + g % 128) as u8);
-        g = g / 128;
-        j = std::num::wrapping_add_usize(j, 1);
-    }
-    crate::total::put8(out, j, g as u8);
-    std::num::wrapping_add_usize(j, 1)
+// The gap number of a posting after another.
+fn put_gap_after<const N: usize>(value: &mut Bytes<N>, before: u32, docid: u32) {
+    put_gap(value, docid.wrapping_sub(before).wrapping_sub(1));
 }
 
-// Of the i-th posting what is wanted: its gap number, its score, or both.
-fn put_posting(
-    docids: &[u32],
-    scores: &[u16],
-    i: usize,
-    gaps: bool,
-    points: bool,
-    out: &mut [u8],
-    at: usize,
-) -> usize {
-    let past = put_gap(docids, i, gaps, out, at);
-    if !points {
-        return past;
+// "gap numbers and scores in turn"
+fn put_in_turn<const N: usize>(value: &mut Bytes<N>, run: Run) {
+    let mut before = None;
+    for (docid, score) in run.docids.iter().zip(run.scores) {
+        if let Some(before) = before {
+            put_gap_after(value, before, *docid);
+        }
+        value.push(&score.to_be_bytes());
+        before = Some(*docid);
     }
-    let score = crate::total::at16(scores, i);
-    let bytes = [(score / 256) as u8, (score % 256) as u8];
-    crate::total::copy(&bytes, 0, 2, out, past);
-    std::num::wrapping_add_usize(past, 2)
 }
 
-// Of each posting what is wanted; gives the place past it.
-fn put_run(
-    docids: &[u32],
-    scores: &[u16],
-    gaps: bool,
-    points: bool,
-    out: &mut [u8],
-    at: usize,
-) -> usize {
-    let mut j = at;
-    let mut i = 0;
-    while i < docids.len() {
-        j = put_posting(docids, scores, i, gaps, points, out, j);
-        i += 1;
+// "all gap numbers first, then all scores"
+fn put_apart<const N: usize>(value: &mut Bytes<N>, run: Run) {
+    for pair in run.docids.windows(2) {
+        if let [before, docid] = pair {
+            put_gap_after(value, *before, *docid);
+        }
     }
-    j
+    for score in run.scores {
+        value.push(&score.to_be_bytes());
+    }
 }
 
-// One block. The summary is that of a list of its own; the body is made here: gap numbers and scores in turn, or a strip, "all gap numbers
-// first, then all scores". Gives the place past the body.
-fn put_block(
-    strip: bool,
-    docids: &[u32],
-    scores: &[u16],
-    out: &mut [u8],
-    sum: usize,
-    body: usize,
-) -> usize {
-    let mut own = [0u8; 1024];
-    append(&mut own, 0, strip, 0, docids, scores);
-    crate::total::copy(&own, 8, 12, out, sum);
-    let value = std::num::wrapping_add_usize(body, 3);
-    let gaps = put_run(docids, scores, true, !strip, out, value);
-    let past = put_run(docids, scores, false, strip, out, gaps);
-    let len = std::num::wrapping_sub_usize(past, value);
-    let tag = if strip { 4 } else { 3 };
-    let head = [tag, (len / 256 % 256) as u8, (len % 256) as u8];
-    crate::total::copy(&head, 0, 3, out, body);
-    past
+// The blocks of a list: at most 64 summaries of 12 bytes, and the bodies.
+#[derive(Drop)]
+struct Blocks {
+    count: u8,
+    summaries: Bytes<768>,
+    bodies: Bytes<2048>,
 }
 
-// The blocks of two runs of equal length, `size` postings in each but the last: the summaries from `sums` on, the bodies from `bodies` on.
-fn put_blocks(
-    strip: bool,
-    docids: &[u32],
-    scores: &[u16],
-    size: usize,
-    out: &mut [u8],
-    sums: usize,
-    bodies: usize,
-) -> usize
-    requires { 0 < size }
-{
-    let mut sum = sums;
-    let mut body = bodies;
-    let mut a = 0;
-    while a < docids.len() {
-        let e = block_end(docids.len(), a, size);
-        body = put_block(
-            strip,
-            crate::total::part32(docids, a, e),
-            crate::total::part16(scores, a, e),
-            out,
-            sum,
-            body,
-        );
-        sum = std::num::wrapping_add_usize(sum, 12);
-        a = e;
+impl Blocks {
+    fn new() -> Blocks {
+        Blocks {
+            count: 0,
+            summaries: Bytes::new(),
+            bodies: Bytes::new(),
+        }
     }
-    body
+
+    // One block. The summary is that of a list of its own; the body is made here.
+    fn put(&mut self, strip: bool, run: Run) {
+        let mut own = Bytes::<1024>::new();
+        append(&mut own, strip, 0, run);
+        let mut value = Bytes::<1024>::new();
+        if strip {
+            put_apart(&mut value, run);
+        } else {
+            put_in_turn(&mut value, run);
+        }
+        let [high, low] = (value.len as u16).to_be_bytes();
+        self.summaries.push(&own.held[8..20]);
+        self.bodies.push(&[if strip { 4 } else { 3 }, high, low]);
+        self.bodies.push(value.as_slice());
+        self.count = self.count.saturating_add(1);
+    }
 }
 
 // A term's list, in its layout, in blocks of few postings: at most 64 of them, however long the list is.
-fn append_cut(table: &[u16], term: usize, seed: &mut u64, out: &mut [u8], at: usize) -> usize {
-    let mut docids = [0u32; 256];
-    let mut scores = [0u16; 256];
-    let n = crate::table::gather(table, term, &mut docids, &mut scores);
+fn append_cut(table: &Table, term: usize, chance: &mut Chance, out: &mut Bytes<ROOM>)
+    requires { term < TERMS }
+{
+    let postings = table.postings(term);
+    let run = postings.as_run();
+    let n = run.docids.len();
     if n == 0 {
-        return at;
+        return;
     }
-    let size = n / 64 + 1 + crate::chance::draw(seed, 6) as usize;
-    let blocks = std::num::wrapping_add_usize((n - 1) / size, 1);
-    let number = crate::table::term_number(term);
-    crate::total::put_field5(out, at, 0x01, number, (blocks % 256) as u8);
-    let sums = std::num::wrapping_add_usize(at, 8);
-    put_blocks(
-        crate::table::strip_at(table, term),
-        crate::total::part32(&docids, 0, n),
-        crate::total::part16(&scores, 0, n),
-        size,
-        out,
-        sums,
-        std::num::wrapping_add_usize(sums, blocks % 256 * 12),
-    )
+    let size = n / 64 + 1 + chance.draw(6);
+    let strip = table.is_strip(term);
+    let mut blocks = Blocks::new();
+    for (docids, scores) in run.docids.chunks(size).zip(run.scores.chunks(size)) {
+        blocks.put(strip, Run { docids, scores });
+    }
+    out.push(&field_of_5(0x01, term_number(term), blocks.count));
+    out.push(blocks.summaries.as_slice());
+    out.push(blocks.bodies.as_slice());
 }
 
-// The table's shelf in small blocks; gives its length.
-pub(crate) fn cut(table: &[u16], seed: &mut u64, out: &mut [u8]) -> usize {
-    let mut at = 0;
-    let mut t = 0;
-    while t < TERMS {
-        at = append_cut(table, t, seed, out, at);
-        t += 1;
+// The table's shelf in small blocks.
+pub(crate) fn cut(table: &Table, chance: &mut Chance, out: &mut Bytes<ROOM>) {
+    out.clear();
+    for term in 0..TERMS {
+        append_cut(table, term, chance, out);
     }
-    at
 }

@@ -16,21 +16,21 @@ pub fn be2(s: &[u8], at: usize) -> u16
     requires { at + 2 ≤ length s.now }
     ensures { result ≡ num 2 (drop at s.now) }
 {
-    256 * (be1(s, at) as u16) + (s[at + 1] as u16)
+    u16::from_be_bytes([s[at], s[at + 1]])
 }
 
 pub fn be3(s: &[u8], at: usize) -> u32
     requires { at + 3 ≤ length s.now }
     ensures { result ≡ num 3 (drop at s.now) }
 {
-    256 * (be2(s, at) as u32) + (s[at + 2] as u32)
+    u32::from_be_bytes([0, s[at], s[at + 1], s[at + 2]])
 }
 
 pub fn be4(s: &[u8], at: usize) -> u32
     requires { at + 4 ≤ length s.now }
     ensures { result ≡ num 4 (drop at s.now) }
 {
-    65536 * (be2(s, at) as u32) + (be2(s, at + 2) as u32)
+    u32::from_be_bytes([s[at], s[at + 1], s[at + 2], s[at + 3]])
 }
 
 // ---- writing: each stores its bytes at a place that has room for them, and gives the place past them
@@ -47,22 +47,22 @@ pub fn put2(out: &mut [u8], at: usize, x: u16) -> usize
     requires { at + 2 ≤ length out.old }
     ensures { Stored out.old out.new at result (be 2 x) }
 {
-    let p = put1(out, at, (x / 256) as u8);
-    put1(out, p, (x % 256) as u8)
+    out[at..at + 2].copy_from_slice(&x.to_be_bytes());
+    at + 2
 }
 
 pub fn put3(out: &mut [u8], at: usize, x: u32) -> usize
     requires { (x < 256 ^ 3) × (at + 3 ≤ length out.old) }
     ensures { Stored out.old out.new at result (be 3 x) }
 {
-    let p = put2(out, at, (x / 256) as u16);
-    put1(out, p, (x % 256) as u8)
+    out[at..at + 3].copy_from_slice(&x.to_be_bytes()[1..]);
+    at + 3
 }
 
 pub fn put4(out: &mut [u8], at: usize, x: u32) -> usize
     requires { at + 4 ≤ length out.old }
     ensures { Stored out.old out.new at result (be 4 x) }
 {
-    let p = put3(out, at, x / 256);
-    put1(out, p, (x % 256) as u8)
+    out[at..at + 4].copy_from_slice(&x.to_be_bytes());
+    at + 4
 }

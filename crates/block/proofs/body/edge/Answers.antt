@@ -9,13 +9,8 @@ returns-then-not-m c =
     let a = c.args in
     (edge-plain a.m.strip a.m.count a.s.now (not-true a.m.strip c.if-not-m.true), omega arith)
 
-pub returns-then-n-scores : goal.returns-then-n-scores
-returns-then-n-scores c =
+pub returns : goal.returns
+returns c =
     let a = c.args in
     let e = edge-strip a.m.strip a.m.count a.s.now (not-false a.m.strip c.if-not-m.false) in
-    (omega (arith, e, c.if-n-scores.true), omega arith)
-
-pub returns-else-n-scores : goal.returns-else-n-scores
-returns-else-n-scores c =
-    let a = c.args in
-    (edge-strip a.m.strip a.m.count a.s.now (not-false a.m.strip c.if-not-m.false), omega arith)
+    (omega (arith, e, c.saturating_sub.ensures), omega (arith, c.saturating_sub.ensures))

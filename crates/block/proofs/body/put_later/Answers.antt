@@ -1,72 +1,95 @@
 -- `block::body::put_later` meets its contract. The invariant: to store what is left of the postings from here gives what is asked. Assumes nothing.
+use Rattle.std.specs.Iterator.Adapters.{zip_first, zip_second}
+use Rattle.std.specs.Slice.Iter.{iter_rest}
+use Rattle.std.proofs.lemmas.Slice.Zip.{either_empty_from_Zip}
+use Rattle.model.specs.Post.{Post, postings, post}
 use Rattle.model.proofs.Storing.{stored-append, stored-length, rest-start, rest-turn, rest-room, rest_end}
-use Rattle.model.proofs.Posts.{from}
 use Rattle.block.specs.Body.{later_bytes}
-use Rattle.block.proofs.Bodies.{Turn, turn, piece, piece_size, later-none}
-use Prim.Native.Nat.{◌+◌, ◌≤◌}
+use Rattle.block.proofs.Bodies.{Turn, turn, piece, piece_size, later-end}
+use Prim.Native.Nat.{ℕ, ◌+◌, ◌≤◌}
 use native.Mathlib.Omega.{arith}
-use lib.ListN.{length, get_or}
-use borrow.Author.Rules.{rules}
+use mathlib.Core.List.{List, [], ◌∷◌}
+use mathlib.Core.Logic.{◌⊎◌, inl, inr}
+use mathlib.Core.Path.{◌≡◌, refl, ap, ◌∙◌}
+use lib.ListN.{length}
 use Rattle.block.proofs.body.put_later.Goals as goal
 
-pub loop-i-init : goal.loop-i-init
-loop-i-init c = (search rules, c.requires.0.rise, rest-start _ _ _)
+-- what comes next, of both runs
+next : (d w : ℕ) (ds ss xs ys : List ℕ) → ds ≡ d ∷ xs → ss ≡ w ∷ ys → postings ds ss ≡ post d w ∷ postings xs ys
+next d w ds ss xs ys e f = rw (e, f)
 
-pub bounds-scores-i : goal.bounds-scores-i
-bounds-scores-i c = omega (arith, c.requires.0.same)
+ended : (ds ss : List ℕ) → (ds ≡ []) ⊎ (ss ≡ []) → postings ds ss ≡ []
+ended ds ss (inl e) = rw e
+ended [] ss (inr f) = refl
+ended (d ∷ ds) ss (inr f) = rw f
+
+pub loop-d-init : goal.loop-d-init
+loop-d-init c =
+    let d : iter_rest (zip_first c.into_iter-d-iterator.result) ≡ c.args.docs.now = cc in
+    let s : iter_rest (zip_second c.into_iter-d-iterator.result) ≡ c.args.scores.now = cc in
+    rw (d, s) (c.requires.0.rise, rest-start _ _ _)
 
 pub overflow_sub-d : goal.overflow_sub-d
 overflow_sub-d c =
-    let here : Turn c.loop-i.p c.loop-i.i c.args.docs.now c.args.scores.now = turn c.loop-i.p c.loop-i.i c.args.docs.now c.args.scores.now c.requires.0.same c.loop-i-test.true c.loop-i.invariant.1 in
-    omega (arith, (here).above)
+    let l = c.loop-d in
+    let n = c.next.new.self in
+    let ps = postings (iter_rest (zip_first l.d-iterator)) (iter_rest (zip_second l.d-iterator)) in
+    let qs = postings (iter_rest (zip_first n)) (iter_rest (zip_second n)) in
+    let d = c.in-Some.field-0-0.now in
+    let w = c.in-Some.field-0-1.now in
+    let t : Turn l.p d w ps qs = turn l.p d w ps qs (next d w _ _ _ _ c.in-Some.ensures.steps.0 c.in-Some.ensures.steps.1) l.invariant.0 in
+    omega (arith, t.above)
 
-pub overflow_sub-d-in-loop-i : goal.overflow_sub-d-in-loop-i
-overflow_sub-d-in-loop-i c =
-    let here : Turn c.loop-i.p c.loop-i.i c.args.docs.now c.args.scores.now = turn c.loop-i.p c.loop-i.i c.args.docs.now c.args.scores.now c.requires.0.same c.loop-i-test.true c.loop-i.invariant.1 in
-    omega (arith, (here).above)
-
-pub overflow_cast-d : goal.overflow_cast-d
-overflow_cast-d c = omega (arith, c.shared_slice_known-in-loop-i-1.given c.loop-i.i)
+pub overflow_sub-d-in-loop-d : goal.overflow_sub-d-in-loop-d
+overflow_sub-d-in-loop-d c =
+    let l = c.loop-d in
+    let n = c.next.new.self in
+    let ps = postings (iter_rest (zip_first l.d-iterator)) (iter_rest (zip_second l.d-iterator)) in
+    let qs = postings (iter_rest (zip_first n)) (iter_rest (zip_second n)) in
+    let d = c.in-Some.field-0-0.now in
+    let w = c.in-Some.field-0-1.now in
+    let t : Turn l.p d w ps qs = turn l.p d w ps qs (next d w _ _ _ _ c.in-Some.ensures.steps.0 c.in-Some.ensures.steps.1) l.invariant.0 in
+    omega (arith, t.above)
 
 pub put_gap-j-requires : goal.put_gap-j-requires
 put_gap-j-requires c =
-    let here : Turn c.loop-i.p c.loop-i.i c.args.docs.now c.args.scores.now = turn c.loop-i.p c.loop-i.i c.args.docs.now c.args.scores.now c.requires.0.same c.loop-i-test.true c.loop-i.invariant.1 in
-    let room : c.loop-i.j + length (piece c.args.strip c.loop-i.p (get_or c.args.docs.now c.loop-i.i 0) (get_or c.args.scores.now c.loop-i.i 0)) ≤ length c.loop-i.out = let a = c.args in
-    let i = c.loop-i.i in
-    let d = get_or a.docs.now i 0 in
-    rest-room (piece a.strip c.loop-i.p d (get_or a.scores.now i 0)) (later_bytes a.strip d (from (i + 1) a.docs.now a.scores.now)) ((here).bytes a.strip) c.loop-i.invariant.2 c.requires.1 in
-    let a = c.args in
-    let l = c.loop-i in (
-      omega (arith, c.shared_slice_known-in-loop-i-1.given l.i),
-      omega (arith, room, piece_size a.strip l.p (get_or a.docs.now l.i 0) (get_or a.scores.now l.i 0)),
-    )
+    let l = c.loop-d in
+    let n = c.next.new.self in
+    let ps = postings (iter_rest (zip_first l.d-iterator)) (iter_rest (zip_second l.d-iterator)) in
+    let qs = postings (iter_rest (zip_first n)) (iter_rest (zip_second n)) in
+    let d = c.in-Some.field-0-0.now in
+    let w = c.in-Some.field-0-1.now in
+    let t : Turn l.p d w ps qs = turn l.p d w ps qs (next d w _ _ _ _ c.in-Some.ensures.steps.0 c.in-Some.ensures.steps.1) l.invariant.0 in
+    let room : l.j + length (piece c.args.strip l.p d w) ≤ length l.out = rest-room (piece c.args.strip l.p d w) (later_bytes c.args.strip d qs) (t.bytes c.args.strip) l.invariant.1 c.requires.1 in
+    (omega arith, omega (arith, room, piece_size c.args.strip l.p d w))
 
 pub put_in_turn-j-requires : goal.put_in_turn-j-requires
 put_in_turn-j-requires c =
-    let here : Turn c.loop-i.p c.loop-i.i c.args.docs.now c.args.scores.now = turn c.loop-i.p c.loop-i.i c.args.docs.now c.args.scores.now c.requires.0.same c.loop-i-test.true c.loop-i.invariant.1 in
-    let room : c.loop-i.j + length (piece c.args.strip c.loop-i.p (get_or c.args.docs.now c.loop-i.i 0) (get_or c.args.scores.now c.loop-i.i 0)) ≤ length c.loop-i.out = let a = c.args in
-    let i = c.loop-i.i in
-    let d = get_or a.docs.now i 0 in
-    rest-room (piece a.strip c.loop-i.p d (get_or a.scores.now i 0)) (later_bytes a.strip d (from (i + 1) a.docs.now a.scores.now)) ((here).bytes a.strip) c.loop-i.invariant.2 c.requires.1 in
-    let a = c.args in
-    let l = c.loop-i in
-    omega (arith, room, piece_size a.strip l.p (get_or a.docs.now l.i 0) (get_or a.scores.now l.i 0), stored-length c.put_gap-j.ensures, c.put_gap-j.ensures.past)
+    let l = c.loop-d in
+    let n = c.next.new.self in
+    let ps = postings (iter_rest (zip_first l.d-iterator)) (iter_rest (zip_second l.d-iterator)) in
+    let qs = postings (iter_rest (zip_first n)) (iter_rest (zip_second n)) in
+    let d = c.in-Some.field-0-0.now in
+    let w = c.in-Some.field-0-1.now in
+    let t : Turn l.p d w ps qs = turn l.p d w ps qs (next d w _ _ _ _ c.in-Some.ensures.steps.0 c.in-Some.ensures.steps.1) l.invariant.0 in
+    let room : l.j + length (piece c.args.strip l.p d w) ≤ length l.out = rest-room (piece c.args.strip l.p d w) (later_bytes c.args.strip d qs) (t.bytes c.args.strip) l.invariant.1 c.requires.1 in
+    omega (arith, room, piece_size c.args.strip l.p d w, stored-length c.put_gap-j.ensures, c.put_gap-j.ensures.past)
 
-pub loop-i-preserved : goal.loop-i-preserved
-loop-i-preserved c =
-    let here : Turn c.loop-i.p c.loop-i.i c.args.docs.now c.args.scores.now = turn c.loop-i.p c.loop-i.i c.args.docs.now c.args.scores.now c.requires.0.same c.loop-i-test.true c.loop-i.invariant.1 in
-    let t = here in
-    let a = c.args in
-    let l = c.loop-i in
-    let d = get_or a.docs.now l.i 0 in (
-      omega arith,
+pub loop-d-preserved : goal.loop-d-preserved
+loop-d-preserved c =
+    let l = c.loop-d in
+    let n = c.next.new.self in
+    let ps = postings (iter_rest (zip_first l.d-iterator)) (iter_rest (zip_second l.d-iterator)) in
+    let qs = postings (iter_rest (zip_first n)) (iter_rest (zip_second n)) in
+    let d = c.in-Some.field-0-0.now in
+    let w = c.in-Some.field-0-1.now in
+    let t : Turn l.p d w ps qs = turn l.p d w ps qs (next d w _ _ _ _ c.in-Some.ensures.steps.0 c.in-Some.ensures.steps.1) l.invariant.0 in (
       t.rise,
-      rest-turn (piece a.strip l.p d (get_or a.scores.now l.i 0)) (later_bytes a.strip d (from (l.i + 1) a.docs.now a.scores.now)) (t.bytes a.strip) l.invariant.2
-          (stored-append c.put_gap-j.ensures c.put_in_turn-j.ensures),
+      rest-turn (piece c.args.strip l.p d w) (later_bytes c.args.strip d qs) (t.bytes c.args.strip) l.invariant.1 (stored-append c.put_gap-j.ensures c.put_in_turn-j.ensures),
     )
 
-pub shape_of-out : goal.shape_of-out
-shape_of-out c = c.loop-i.invariant.2.same
-
 pub returns : goal.returns
-returns c = rest_end (later-none c.args.strip c.loop-i.p c.loop-i.i c.args.docs.now c.args.scores.now c.loop-i-test.false) c.loop-i.invariant.2
+returns c =
+    let l = c.loop-d in
+    let e = ended _ _ (either_empty_from_Zip l.d-iterator c.next.new.self c.next.result c.in-None.is c.next.ensures.steps) in
+    rest_end (ap (λ (ps : List Post). later_bytes c.args.strip l.p ps) e ∙ later-end c.args.strip l.p) l.invariant.1

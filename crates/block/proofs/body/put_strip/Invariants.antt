@@ -3,12 +3,7 @@ use Rattle.model.specs.Post.{postings}
 use Rattle.model.proofs.Storing.{Rest}
 use Rattle.model.proofs.Posts.{from}
 use Rattle.block.specs.Body.{back_bytes}
-use Prim.Native.Nat.{◌-◌, ◌≤◌}
-use lib.ListN.{length}
 use Rattle.block.proofs.body.put_strip.Given as goal
 
-abbrev pub invariant-loop-i : goal.invariant-loop-i
-invariant-loop-i l = (l.i ≤ length l.scores) × Rest l.initial.out l.out l.at l.j (back_bytes l.strip (postings l.docs l.scores)) (back_bytes l.strip (from l.i l.docs l.scores))
-
-abbrev pub decreases-loop-i : goal.decreases-loop-i
-decreases-loop-i l = length l.scores - l.i
+abbrev pub invariant-loop-s : goal.invariant-loop-s
+invariant-loop-s l = Rest l.initial.out l.out l.at l.j (back_bytes l.strip (postings l.docs l.scores)) (back_bytes l.strip (from l.s-index l.docs l.scores))

@@ -7,4 +7,4 @@ pub returns : goal.returns
 returns c =
     let a = c.args in
     let q = c.requires in
-    rw c.top_of-top.ensures (sym (summary-of a.strip a.docs.now a.scores.now q.2 q.0))
+    rw c.top_of.ensures (sym (summary-of a.strip a.docs.now a.scores.now q.2 q.0))

@@ -1,25 +1,28 @@
--- `block::top_of` meets its contract. The invariant: the largest of all is the largest of what is left, from here. Assumes nothing.
+-- `block::summary::top_of` meets its contract. Assumes nothing.
+use Rattle.std.proofs.lemmas.Iterator.{YieldsList-from_slice}
+use Rattle.std.proofs.lemmas.Iterator.Adapters.{option_map_id}
+use Rattle.std.proofs.lemmas.Iterator.Consumers.{YieldsList-from_copied, max_from_yields_List}
+use Rattle.std.specs.List.{fold, reduce}
+use Rattle.std.specs.Option.{unwrap_or}
 use Rattle.model.specs.Post.{max_from}
-use Rattle.model.proofs.Lists.{rest_cons, rest-none}
-use Prim.Native.Nat.{ℕ, ◌+◌, max}
+use Prim.Native.Nat.{ℕ, max}
 use native.Mathlib.Omega.{arith}
+use mathlib.Core.List.{List, [], ◌∷◌}
 use mathlib.Core.Path.{◌≡◌, refl, sym, ap, ◌∙◌}
-use lib.ListN.{get_or, drop}
-use borrow.Author.Rules.{rules}
-use Rattle.block.proofs.summary.top_of.Goals.{else-m-s, then-m-s}
 use Rattle.block.proofs.summary.top_of.Goals as goal
 
-pub loop-i-init : goal.loop-i-init
-loop-i-init c = (search rules, refl)
+max-fold : (m : ℕ) (xs : List ℕ) → fold max m xs ≡ max_from m xs
+max-fold m [] = refl
+max-fold m (x ∷ xs) = max-fold (max m x) xs
 
-pub loop-i-preserved : goal.loop-i-preserved
-loop-i-preserved c =
-    let l = c.loop-i in
-    let s = c.args.scores.now in
-    let m : max_from 0 s ≡ max_from (max l.m (get_or s l.i 0)) (drop (l.i + 1) s) = l.invariant.1 ∙ rw (rest_cons s l.i c.loop-i-test.true) in
-    (omega arith, m ∙ ap (λ (x : ℕ). max_from x (drop (l.i + 1) s)) ((elim c.if-m-s.branch [ then-m-s w ↦ omega arith | else-m-s w ↦ omega arith ])))
+max-reduce : (xs : List ℕ) → unwrap_or (reduce max xs) 0 ≡ max_from 0 xs
+max-reduce [] = refl
+max-reduce (x ∷ xs) =
+    let z : x ≡ max 0 x = omega arith in
+    max-fold x xs ∙ ap (λ (m : ℕ). max_from m xs) z
 
 pub returns : goal.returns
 returns c =
-    let l = c.loop-i in
-    sym (l.invariant.1 ∙ rw (rest-none c.args.scores.now l.i c.loop-i-test.false))
+    let s = c.args.scores.now in
+    let m = sym (option_map_id _) ∙ max_from_yields_List _ _ c.max.ensures.ran (YieldsList-from_copied (YieldsList-from_slice s cc)) in
+    c.unwrap_or.ensures ∙ ap (λ o. unwrap_or o 0) m ∙ max-reduce s

@@ -12,7 +12,7 @@ use Rattle.change.proofs.place.place.Goals as goal
 pub returns-then-docs-gt-MAX_POSTINGS : goal.returns-then-docs-gt-MAX_POSTINGS
 returns-then-docs-gt-MAX_POSTINGS c =
     let a = c.args in
-    λ ls e. gives-refused a.out.now (place_many a.s.now (length ls) a.term a.docs.now a.scores.now (length a.out.now) c.requires.same a.seat c.if-docs-gt-MAX_POSTINGS.true)
+    λ ls e. rw c.at.ensures (gives-refused _ a.out.now (place_many a.s.now (length ls) a.term a.docs.now a.scores.now (length a.out.now) c.requires.same a.seat c.if-docs-gt-MAX_POSTINGS.true))
 
 pub strip_of-strip-requires : goal.strip_of-strip-requires
 strip_of-strip-requires c =
@@ -32,7 +32,7 @@ pub returns-then-lists_in : goal.returns-then-lists_in
 returns-then-lists_in c =
     let a = c.args in
     let k : a.seat ≡ Free c.in-Free.at = cc in
-    λ ls e. rw k (gives-refused a.out.now (place_full a.s.now (length ls) a.term a.docs.now a.scores.now (length a.out.now) c.requires.same c.in-Free.at c.if-docs-gt-MAX_POSTINGS.false (omega (arith, c.lists_in.ensures ls e, c.if-lists_in.true))))
+    λ ls e. rw k (rw c.at-then-lists_in.ensures (gives-refused _ a.out.now (place_full a.s.now (length ls) a.term a.docs.now a.scores.now (length a.out.now) c.requires.same c.in-Free.at c.if-docs-gt-MAX_POSTINGS.false (omega (arith, c.lists_in.ensures ls e, c.if-lists_in.true)))))
 
 pub splice-requires-in-Free : goal.splice-requires-in-Free
 splice-requires-in-Free c =

@@ -1,27 +1,18 @@
--- `change::runs::insert` meets its contract. The invariant: the postings passed are placed, and one is carried before the others (`Runnings`). Assumes nothing.
-use mathlib.Core.Path.{refl}
-use lib.ListN.{get_or, length-set}
-use Rattle.change.proofs.Runnings.{insert-start, insert-turn, insert-done}
+-- `change::runs::insert` meets its contract: the posting goes to where the docids above it begin. Assumes nothing.
+use Rattle.std.proofs.Common.{rules}
+use Rattle.std.proofs.lemmas.List.Sorted.{IsPartitionPoint-from_clause}
+use lib.Dec.{ltb}
+use lib.ListN.{take}
+use lib.Seq.{length-take-le}
+use native.Mathlib.Omega.{arith}
+use Prim.Native.Nat.{◌≤◌}
+use Rattle.change.proofs.Runnings.{below-first, inserted}
 use Rattle.change.proofs.runs.insert.Goals as goal
-
-pub loop-i-init : goal.loop-i-init
-loop-i-init c =
-    insert-start c.args.d c.args.w c.args.n c.args.docs.now c.args.scores.now c.requires
-
-pub loop-i-preserved : goal.loop-i-preserved
-loop-i-preserved c =
-    let l = c.loop-i in
-    let t = c.loop-i-test.true in
-    insert-turn c.args.d c.args.w c.args.n c.args.docs.now c.args.scores.now c.requires l.docs l.scores l.i l.carried l.invariant
-    (get_or l.docs l.i 0) (get_or l.scores l.i 0) c.lower-low.result c.upper-carried.result t refl refl c.lower-low.ensures c.upper-carried.ensures
-
-pub shape_of-docs : goal.shape_of-docs
-shape_of-docs c = simp length-set c.loop-i.invariant.alike.docids
-
-pub shape_of-scores : goal.shape_of-scores
-shape_of-scores c = simp length-set c.loop-i.invariant.alike.scored
 
 pub returns : goal.returns
 returns c =
-    let l = c.loop-i in
-    insert-done c.args.d c.args.w c.args.n c.args.docs.now c.args.scores.now c.requires l.docs l.scores l.i l.carried l.invariant c.loop-i-test.false
+    let a = c.args in
+    let at = c.partition_point-at.result in
+    let q = IsPartitionPoint-from_clause (λ y. ltb y a.d) (take a.n a.docs.now) at c.partition_point-at.ensures.partitioned (below-first a.d a.n a.docs.now a.scores.now c.requires) (λ x r f k. search rules) in
+    let h : at ≤ a.n = omega (arith, c.partition_point-at.ensures.bound, length-take-le a.n a.docs.now (omega (arith, c.requires.roomy))) in
+    rw (c.copy_within.ensures.after, c.copy_within-2.ensures.after) (inserted a.d a.n a.docs.now a.scores.now c.requires a.w at h q)

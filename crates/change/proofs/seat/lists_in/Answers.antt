@@ -3,8 +3,10 @@ use lib.ListN.{drop, length}
 use Prim.Native.Nat.{◌<◌, ◌≤◌}
 use Rattle.shelf.specs.Walk.{list}
 use Rattle.shelf.specs.Answers.{placed}
+use Rattle.model.specs.Outcome.{refused, done}
+use Rattle.model.specs.Refusal.{number}
 use native.Mathlib.Omega.{arith}
-use mathlib.Core.Path.{◌≡◌}
+use mathlib.Core.Path.{◌≡◌, sym}
 use Rattle.change.proofs.Seats.{list-onward, count-start, count-end, count-never, count-on}
 use Rattle.change.proofs.seat.lists_in.Goals as goal
 
@@ -13,14 +15,14 @@ loop-at-init c = (omega arith, omega arith, λ ls e. count-start c.args.s.now ls
 
 pub loop-at-smaller : goal.loop-at-smaller
 loop-at-smaller c =
-    let found : placed (list c.loop-at.floor c.loop-at.at (drop c.loop-at.at c.args.s.now)) ≡ done c.in-Ok.p = cc in
+    let found : placed (list c.loop-at.floor c.loop-at.at (drop c.loop-at.at c.args.s.now)) ≡ done c.in-Ok.p = sym c.in-Ok.ensures in
     let onward : (c.loop-at.at < c.in-Ok.p.next) × (c.in-Ok.p.next ≤ length c.args.s.now) = let l = c.loop-at in
     list-onward l.floor l.at c.args.s.now c.in-Ok.p (found) in
     omega (arith, (onward).0, (onward).1)
 
 pub loop-at-preserved : goal.loop-at-preserved
 loop-at-preserved c =
-    let found : placed (list c.loop-at.floor c.loop-at.at (drop c.loop-at.at c.args.s.now)) ≡ done c.in-Ok.p = cc in
+    let found : placed (list c.loop-at.floor c.loop-at.at (drop c.loop-at.at c.args.s.now)) ≡ done c.in-Ok.p = sym c.in-Ok.ensures in
     let onward : (c.loop-at.at < c.in-Ok.p.next) × (c.in-Ok.p.next ≤ length c.args.s.now) = let l = c.loop-at in
     list-onward l.floor l.at c.args.s.now c.in-Ok.p (found) in
     let l = c.loop-at in
@@ -29,8 +31,8 @@ loop-at-preserved c =
 pub returns-in-Err : goal.returns-in-Err
 returns-in-Err c =
     let l = c.loop-at in
-    let f : placed (list l.floor l.at (drop l.at c.args.s.now)) ≡ refused c.in-Err.k c.in-Err.o = cc in
-    λ ls e. count-never c.args.s.now ls l.floor l.at l.n (l.invariant.2 ls e) c.loop-at-test.true c.in-Err.k c.in-Err.o f
+    let f : placed (list l.floor l.at (drop l.at c.args.s.now)) ≡ refused (number c.in-Err.r.fault) c.in-Err.r.offset = sym c.in-Err.ensures in
+    λ ls e. count-never c.args.s.now ls l.floor l.at l.n (l.invariant.2 ls e) c.loop-at-test.true (number c.in-Err.r.fault) c.in-Err.r.offset f
 
 pub returns : goal.returns
 returns c =

@@ -26,7 +26,7 @@ pub returns-then-total-gt-MAX_SHELF : goal.returns-then-total-gt-MAX_SHELF
 returns-then-total-gt-MAX_SHELF c =
     let a = c.args in
     let mid = packed_bytes a.strip a.term (postings a.docs.now a.scores.now) in
-    gives-refused a.out.now (splice_large a.s.now a.at a.next mid c.requires.0 c.requires.1 (length a.out.now) (omega (arith, splice-length a.s.now a.at a.next mid c.requires.0 c.requires.1, c.new_len.ensures a.strip a.term, c.if-total-gt-MAX_SHELF.true)))
+    rw c.at.ensures (gives-refused _ a.out.now (splice_large a.s.now a.at a.next mid c.requires.0 c.requires.1 (length a.out.now) (omega (arith, splice-length a.s.now a.at a.next mid c.requires.0 c.requires.1, c.new_len.ensures a.strip a.term, c.if-total-gt-MAX_SHELF.true))))
 
 pub returns-then-out-total : goal.returns-then-out-total
 returns-then-out-total c =
@@ -34,7 +34,7 @@ returns-then-out-total c =
     let mid = packed_bytes a.strip a.term (postings a.docs.now a.scores.now) in
     let size = splice-length a.s.now a.at a.next mid c.requires.0 c.requires.1 in
     let n = c.new_len.ensures a.strip a.term in
-    gives-refused a.out.now (splice_tight a.s.now a.at a.next mid c.requires.0 c.requires.1 (length a.out.now) (omega (arith, c.if-total-gt-MAX_SHELF.false)) (omega (arith, c.if-out-total.true)))
+    rw c.at-then-out-total.ensures (gives-refused _ a.out.now (splice_tight a.s.now a.at a.next mid c.requires.0 c.requires.1 (length a.out.now) (omega (arith, c.if-total-gt-MAX_SHELF.false)) (omega (arith, c.if-out-total.true))))
 
 pub put_new-b-requires : goal.put_new-b-requires
 put_new-b-requires c =

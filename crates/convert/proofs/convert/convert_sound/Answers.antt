@@ -18,7 +18,7 @@ pub returns-then-out-s : goal.returns-then-out-s
 returns-then-out-s c =
     let f = c.find_seat in
     let q : f.result ≡ Taken c.in-Taken.list = cc in
-    λ ls e. gives-refused c.args.out.now (refuses_tight c.args.s.now ls (λ i. omega (arith, c.shared_slice_known-1.given i)) e c.args.term c.in-Taken.list (sym q ∙ f.ensures ls e) (length c.args.out.now) c.if-out-s.true)
+    λ ls e. rw c.at-then-out-s.ensures (gives-refused _ c.args.out.now (refuses_tight c.args.s.now ls (λ i. omega (arith, c.shared_slice_known-1.given i)) e c.args.term c.in-Taken.list (sym q ∙ f.ensures ls e) (length c.args.out.now) c.if-out-s.true))
 
 pub turn_bodies-requires : goal.turn_bodies-requires
 turn_bodies-requires c =
@@ -27,14 +27,14 @@ turn_bodies-requires c =
     let l = judged-lists (checked c.args.s.now) c.requires in
     seat_turnable c.args.s.now l.0 (λ i. omega (arith, c.shared_slice_known-1.given i)) l.1 c.args.term c.in-Taken.list (sym q ∙ f.ensures l.0 l.1) _ (omega (arith, c.if-out-s.false, stored-length c.copy-n.ensures))
 
-pub returns-in-Free : goal.returns-in-Free
-returns-in-Free c =
+pub returns-in_default : goal.returns-in_default
+returns-in_default c =
     let f = c.find_seat in
-    let q : f.result ≡ Free c.in-Free.at = cc in
-    λ ls e. gives-refused c.args.out.now (refuses_none c.args.s.now ls (λ i. omega (arith, c.shared_slice_known-1.given i)) e c.args.term c.in-Free.at (length c.args.out.now) (sym q ∙ f.ensures ls e))
+    let q : f.result ≡ Free c.in_default.field-0 = c.in_default.is in
+    λ ls e. rw c.at.ensures (gives-refused _ c.args.out.now (refuses_none c.args.s.now ls (λ i. omega (arith, c.shared_slice_known-1.given i)) e c.args.term c.in_default.field-0 (length c.args.out.now) (sym q ∙ f.ensures ls e)))
 
-pub returns-else-out-s : goal.returns-else-out-s
-returns-else-out-s c =
+pub returns : goal.returns
+returns c =
     let f = c.find_seat in
     let q : f.result ≡ Taken c.in-Taken.list = cc in
     λ ls e. seat_gives c.args.s.now ls (λ i. omega (arith, c.shared_slice_known-1.given i)) e c.args.term c.in-Taken.list (sym q ∙ f.ensures ls e) c.args.out.now _ _ _ (omega (arith, c.if-out-s.false)) c.copy-n.ensures c.turn_bodies.ensures

@@ -2,8 +2,8 @@
 use Rattle.convert.proofs.Turnings.{TurningFrom}
 use Rattle.convert.proofs.convert.turn_bodies.Given as goal
 
-abbrev pub invariant-loop-m : goal.invariant-loop-m
-invariant-loop-m l = TurningFrom l.s l.initial.r l.initial.out l.out l.r
+abbrev pub invariant-loop-b : goal.invariant-loop-b
+invariant-loop-b l = TurningFrom l.s l.initial.reading l.initial.out l.out l.reading
 
-abbrev pub decreases-loop-m : goal.decreases-loop-m
-decreases-loop-m l = l.r.left
+abbrev pub decreases-loop-b : goal.decreases-loop-b
+decreases-loop-b l = l.reading.left

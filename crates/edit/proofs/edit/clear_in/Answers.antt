@@ -26,8 +26,7 @@ pub returns-then-m-n : goal.returns-then-m-n
 returns-then-m-n c =
     let bytes : Bytes c.args.s.now = λ i. omega (arith, c.shared_slice_known-1.given i) in
     let a = c.args in
-    λ ls e. gives-refused a.out.now
-    (clear_refuses a.s.now ls (bytes) e a.term a.docid c.find_seat-seat.result (c.find_seat-seat.ensures ls e) c.held-n.result c.without-m.result _ _ _ _ (held-runs c.held-n.ensures) (clear-chain c.held-n.ensures c.without-m.ensures) (length a.out.now) c.if-m-n.true)
+    λ ls e. rw c.at.ensures (gives-refused _ a.out.now (clear_refuses a.s.now ls (bytes) e a.term a.docid c.find_seat-seat.result (c.find_seat-seat.ensures ls e) c.held-n.result c.without-m.result _ _ _ _ (held-runs c.held-n.ensures) (clear-chain c.held-n.ensures c.without-m.ensures) (length a.out.now) c.if-m-n.true))
 
 pub slice_bounds-place-end : goal.slice_bounds-place-end
 slice_bounds-place-end c = (clear-chain c.held-n.ensures c.without-m.ensures).roomy

@@ -3,8 +3,8 @@ use Rattle.shelf.specs.Blocks.{blocks_left}
 use Rattle.edit.proofs.Seekings.{Looking}
 use Rattle.edit.proofs.holds.holds.Given as goal
 
-abbrev pub invariant-loop-m : goal.invariant-loop-m
-invariant-loop-m l = Looking l.s l.d (blocks_left l.s l.initial.r) l.r
+abbrev pub invariant-loop-b : goal.invariant-loop-b
+invariant-loop-b l = Looking l.s l.d (blocks_left l.s l.initial.reading) l.reading
 
-abbrev pub decreases-loop-m : goal.decreases-loop-m
-decreases-loop-m l = l.r.left
+abbrev pub decreases-loop-b : goal.decreases-loop-b
+decreases-loop-b l = l.reading.left

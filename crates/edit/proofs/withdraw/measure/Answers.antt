@@ -1,11 +1,13 @@
 -- `edit::measure` meets its contract. The invariant: what was added up and what the lists left come to is all (`Lefts`). Assumes nothing.
 use native.Mathlib.Omega.{arith}
-use mathlib.Core.Path.{◌≡◌}
+use mathlib.Core.Path.{◌≡◌, sym}
 use Prim.Native.Nat.{◌*◌, ◌-◌, ◌≤◌, ◌<◌}
 use lib.ListN.{length, drop}
 use Rattle.shelf.specs.Walk.{list}
 use Rattle.shelf.specs.Check.{checked}
 use Rattle.shelf.specs.Answers.{placed}
+use Rattle.model.specs.Outcome.{refused, done}
+use Rattle.model.specs.Refusal.{number}
 use Rattle.edit.specs.Left.{left_bytes}
 use Rattle.change.proofs.Seats.{list-onward}
 use Rattle.change.proofs.Pieces.{checked-sound, judged-lists}
@@ -18,14 +20,14 @@ loop-at-init c =
 
 pub list_left-l-requires : goal.list_left-l-requires
 list_left-l-requires c =
-    let found : placed (list c.loop-at.floor c.loop-at.at (drop c.loop-at.at c.args.s.now)) ≡ done c.in-Ok.p = cc in
+    let found : placed (list c.loop-at.floor c.loop-at.at (drop c.loop-at.at c.args.s.now)) ≡ done c.in-Ok.p = sym c.in-Ok.ensures in
     let l = c.loop-at in
     let j = judged-lists (checked c.args.s.now) c.requires.0 in
     (add_goes c.args.s.now c.args.d j.0 l.floor l.at l.bytes l.held (l.invariant.3 j.0 j.1) c.in-Ok.p c.loop-at-test.true (found)).ready l.docs l.scores l.invariant.2
 
 pub overflow_add-bytes : goal.overflow_add-bytes
 overflow_add-bytes c =
-    let found : placed (list c.loop-at.floor c.loop-at.at (drop c.loop-at.at c.args.s.now)) ≡ done c.in-Ok.p = cc in
+    let found : placed (list c.loop-at.floor c.loop-at.at (drop c.loop-at.at c.args.s.now)) ≡ done c.in-Ok.p = sym c.in-Ok.ensures in
     let onward : (c.loop-at.at < c.in-Ok.p.next) × (c.in-Ok.p.next ≤ length c.args.s.now) = list-onward c.loop-at.floor c.loop-at.at c.args.s.now c.in-Ok.p (found) in
     let small : length (left_bytes c.args.s.now c.in-Ok.p c.args.d) ≤ 45769 * (c.in-Ok.p.next - c.loop-at.at) = let q = list-starts c.loop-at.floor c.loop-at.at c.args.s.now c.in-Ok.p (found) in
     omega (arith, left-small c.args.s.now c.in-Ok.p c.args.d (omega (arith, (onward).0)) (onward).1, (onward).0) in
@@ -34,13 +36,13 @@ overflow_add-bytes c =
 
 pub loop-at-smaller : goal.loop-at-smaller
 loop-at-smaller c =
-    let found : placed (list c.loop-at.floor c.loop-at.at (drop c.loop-at.at c.args.s.now)) ≡ done c.in-Ok.p = cc in
+    let found : placed (list c.loop-at.floor c.loop-at.at (drop c.loop-at.at c.args.s.now)) ≡ done c.in-Ok.p = sym c.in-Ok.ensures in
     let onward : (c.loop-at.at < c.in-Ok.p.next) × (c.in-Ok.p.next ≤ length c.args.s.now) = list-onward c.loop-at.floor c.loop-at.at c.args.s.now c.in-Ok.p (found) in
     omega (arith, (onward).0, (onward).1)
 
 pub loop-at-preserved : goal.loop-at-preserved
 loop-at-preserved c =
-    let found : placed (list c.loop-at.floor c.loop-at.at (drop c.loop-at.at c.args.s.now)) ≡ done c.in-Ok.p = cc in
+    let found : placed (list c.loop-at.floor c.loop-at.at (drop c.loop-at.at c.args.s.now)) ≡ done c.in-Ok.p = sym c.in-Ok.ensures in
     let onward : (c.loop-at.at < c.in-Ok.p.next) × (c.in-Ok.p.next ≤ length c.args.s.now) = list-onward c.loop-at.floor c.loop-at.at c.args.s.now c.in-Ok.p (found) in
     let small : length (left_bytes c.args.s.now c.in-Ok.p c.args.d) ≤ 45769 * (c.in-Ok.p.next - c.loop-at.at) = let q = list-starts c.loop-at.floor c.loop-at.at c.args.s.now c.in-Ok.p (found) in
     omega (arith, left-small c.args.s.now c.in-Ok.p c.args.d (omega (arith, (onward).0)) (onward).1, (onward).0) in
@@ -55,8 +57,8 @@ loop-at-preserved c =
 pub returns-in-Err : goal.returns-in-Err
 returns-in-Err c =
     let l = c.loop-at in
-    let f : placed (list l.floor l.at (drop l.at c.args.s.now)) ≡ refused c.in-Err.n c.in-Err.o = cc in
-    λ ls e. add-never c.args.s.now c.args.d ls l.floor l.at l.bytes l.held (l.invariant.3 ls e) c.loop-at-test.true c.in-Err.n c.in-Err.o f
+    let f : placed (list l.floor l.at (drop l.at c.args.s.now)) ≡ refused (number c.in-Err.r.fault) c.in-Err.r.offset = sym c.in-Err.ensures in
+    λ ls e. add-never c.args.s.now c.args.d ls l.floor l.at l.bytes l.held (l.invariant.3 ls e) c.loop-at-test.true (number c.in-Err.r.fault) c.in-Err.r.offset f
 
 pub returns : goal.returns
 returns c =

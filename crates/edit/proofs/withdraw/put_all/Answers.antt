@@ -1,12 +1,14 @@
 -- `edit::put_all` meets its contract. The invariant: what the lists left come to is left to store (`Lefts`). Assumes nothing.
 use native.Mathlib.Omega.{arith}
-use mathlib.Core.Path.{◌≡◌, refl, ◌∙◌}
+use mathlib.Core.Path.{◌≡◌, refl, ◌∙◌, sym}
 use Rattle.model.proofs.Storing.{stored-length}
 use Prim.Native.Nat.{◌≤◌, ◌<◌}
 use lib.ListN.{length, drop}
 use Rattle.shelf.specs.Walk.{list}
 use Rattle.shelf.specs.Check.{checked}
 use Rattle.shelf.specs.Answers.{placed}
+use Rattle.model.specs.Outcome.{refused, done}
+use Rattle.model.specs.Refusal.{number}
 use Rattle.change.proofs.Seats.{list-onward}
 use Rattle.change.proofs.Pieces.{judged-lists}
 use Rattle.edit.proofs.Lefts.{put_start, put_end, put_never, put_goes, put_room, put_on}
@@ -18,7 +20,7 @@ loop-at-init c =
 
 pub put_left-j-requires : goal.put_left-j-requires
 put_left-j-requires c =
-    let found : placed (list c.loop-at.floor c.loop-at.at (drop c.loop-at.at c.args.s.now)) ≡ done c.in-Ok.p = cc in
+    let found : placed (list c.loop-at.floor c.loop-at.at (drop c.loop-at.at c.args.s.now)) ≡ done c.in-Ok.p = sym c.in-Ok.ensures in
     let l = c.loop-at in
     let j = judged-lists (checked c.args.s.now) c.requires.0 in
     let i = l.invariant.2 j.0 j.1 in
@@ -29,13 +31,13 @@ put_left-j-requires c =
 
 pub loop-at-smaller : goal.loop-at-smaller
 loop-at-smaller c =
-    let found : placed (list c.loop-at.floor c.loop-at.at (drop c.loop-at.at c.args.s.now)) ≡ done c.in-Ok.p = cc in
+    let found : placed (list c.loop-at.floor c.loop-at.at (drop c.loop-at.at c.args.s.now)) ≡ done c.in-Ok.p = sym c.in-Ok.ensures in
     let onward : (c.loop-at.at < c.in-Ok.p.next) × (c.in-Ok.p.next ≤ length c.args.s.now) = list-onward c.loop-at.floor c.loop-at.at c.args.s.now c.in-Ok.p (found) in
     omega (arith, (onward).0, (onward).1)
 
 pub loop-at-preserved : goal.loop-at-preserved
 loop-at-preserved c =
-    let found : placed (list c.loop-at.floor c.loop-at.at (drop c.loop-at.at c.args.s.now)) ≡ done c.in-Ok.p = cc in
+    let found : placed (list c.loop-at.floor c.loop-at.at (drop c.loop-at.at c.args.s.now)) ≡ done c.in-Ok.p = sym c.in-Ok.ensures in
     let onward : (c.loop-at.at < c.in-Ok.p.next) × (c.in-Ok.p.next ≤ length c.args.s.now) = list-onward c.loop-at.floor c.loop-at.at c.args.s.now c.in-Ok.p (found) in
     let l = c.loop-at in (
       (onward).1,
@@ -50,8 +52,8 @@ shape_of-out-in-Err c = omega (arith, c.loop-at.invariant.3)
 pub returns-in-Err : goal.returns-in-Err
 returns-in-Err c =
     let l = c.loop-at in
-    let f : placed (list l.floor l.at (drop l.at c.args.s.now)) ≡ refused c.in-Err.n c.in-Err.o = cc in
-    λ ls e. put_never c.args.s.now c.args.d ls c.args.out.now l.out l.floor l.at l.j (l.invariant.2 ls e) c.loop-at-test.true c.in-Err.n c.in-Err.o f
+    let f : placed (list l.floor l.at (drop l.at c.args.s.now)) ≡ refused (number c.in-Err.r.fault) c.in-Err.r.offset = sym c.in-Err.ensures in
+    λ ls e. put_never c.args.s.now c.args.d ls c.args.out.now l.out l.floor l.at l.j (l.invariant.2 ls e) c.loop-at-test.true (number c.in-Err.r.fault) c.in-Err.r.offset f
 
 pub shape_of-out : goal.shape_of-out
 shape_of-out c = omega (arith, c.loop-at.invariant.3)

@@ -16,19 +16,19 @@ pub returns-then-not-left : goal.returns-then-not-left
 returns-then-not-left c =
     λ ls e.
     let m = c.measure-left.ensures ls e in
-    gives-refused c.args.out.now (withdraw-none c.args.s.now ls (λ i. omega (arith, c.shared_slice_known-1.given i)) e c.args.docid (length c.args.out.now) (sym m.held ∙ not-true _ c.if-not-left.true))
+    rw c.at.ensures (gives-refused _ c.args.out.now (withdraw-none c.args.s.now ls (λ i. omega (arith, c.shared_slice_known-1.given i)) e c.args.docid (length c.args.out.now) (sym m.held ∙ not-true _ c.if-not-left.true)))
 
 pub returns-then-left-gt-MAX_SHELF : goal.returns-then-left-gt-MAX_SHELF
 returns-then-left-gt-MAX_SHELF c =
     λ ls e.
     let m = c.measure-left.ensures ls e in
-    gives-refused c.args.out.now (withdraw-some c.args.s.now ls (λ i. omega (arith, c.shared_slice_known-1.given i)) e c.args.docid (length c.args.out.now) (sym m.held ∙ not-false _ c.if-not-left.false) ∙ fit_large (joined (clear_pieces every c.args.docid (pieces c.args.s.now ls))) (length c.args.out.now) (omega (arith, m.bytes, c.if-left-gt-MAX_SHELF.true)))
+    rw c.at-then-left-gt-MAX_SHELF.ensures (gives-refused _ c.args.out.now (withdraw-some c.args.s.now ls (λ i. omega (arith, c.shared_slice_known-1.given i)) e c.args.docid (length c.args.out.now) (sym m.held ∙ not-false _ c.if-not-left.false) ∙ fit_large (joined (clear_pieces every c.args.docid (pieces c.args.s.now ls))) (length c.args.out.now) (omega (arith, m.bytes, c.if-left-gt-MAX_SHELF.true))))
 
 pub returns-then-out-left : goal.returns-then-out-left
 returns-then-out-left c =
     λ ls e.
     let m = c.measure-left.ensures ls e in
-    gives-refused c.args.out.now (withdraw-some c.args.s.now ls (λ i. omega (arith, c.shared_slice_known-1.given i)) e c.args.docid (length c.args.out.now) (sym m.held ∙ not-false _ c.if-not-left.false) ∙ fit_tight (joined (clear_pieces every c.args.docid (pieces c.args.s.now ls))) (length c.args.out.now) (omega (arith, m.bytes, c.if-left-gt-MAX_SHELF.false)) (omega (arith, m.bytes, c.if-out-left.true)))
+    rw c.at-then-out-left.ensures (gives-refused _ c.args.out.now (withdraw-some c.args.s.now ls (λ i. omega (arith, c.shared_slice_known-1.given i)) e c.args.docid (length c.args.out.now) (sym m.held ∙ not-false _ c.if-not-left.false) ∙ fit_tight (joined (clear_pieces every c.args.docid (pieces c.args.s.now ls))) (length c.args.out.now) (omega (arith, m.bytes, c.if-left-gt-MAX_SHELF.false)) (omega (arith, m.bytes, c.if-out-left.true))))
 
 pub put_all-requires : goal.put_all-requires
 put_all-requires c =

@@ -10,7 +10,7 @@ tell_hits-requires c =
     let call = c.rank_all-ranked in
     let a : length call.result.kept.docids ≡ 100 = search rules in
     let b : length call.result.kept.scores ≡ 100 = search rules in
-    rank-fit _ _ _ _ _ _ a b call.ensures c.shorter-rows.ensures
+    rank-fit _ _ _ _ _ _ a b call.ensures c.min-rows.ensures
 
 pub returns : goal.returns
-returns c = ranks _ _ c.shorter-rows.ensures c.rank_all-ranked.ensures c.tell_hits.ensures
+returns c = ranks _ _ c.min-rows.ensures c.rank_all-ranked.ensures c.tell_hits.ensures

@@ -11,7 +11,7 @@ tell_hits-requires c =
     let call = c.search-found in
     let a : length call.result.kept.docids ≡ 100 = search rules in
     let b : length call.result.kept.scores ≡ 100 = search rules in
-    search-fit _ _ _ _ _ _ _ _ _ _ _ _ a b call.ensures c.shorter-rows.ensures
+    search-fit _ _ _ _ _ _ _ _ _ _ _ _ a b call.ensures c.min-rows.ensures
 
 pub returns : goal.returns
-returns c = finds _ _ _ _ _ c.shorter-rows.ensures c.search-found.ensures c.tell_hits.ensures
+returns c = finds _ _ _ _ _ c.min-rows.ensures c.search-found.ensures c.tell_hits.ensures

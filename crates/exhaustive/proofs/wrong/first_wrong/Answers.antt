@@ -3,6 +3,8 @@ use mathlib.Core.Path.{◌≡◌, refl, sym, ap, ◌∙◌}
 use mathlib.Core.Option.{Option}
 use native.Mathlib.Omega.{arith}
 use lib.ListN.{length, get_or}
+use Rattle.std.proofs.lemmas.List.{length_push}
+use Rattle.std.proofs.lemmas.Slice.Zip.{zip_turn, zip_end}
 use Rattle.shelf.specs.declared.blocks.Reading.{Reading}
 use Rattle.prune.specs.Prune.{earlier, fault_in}
 use Rattle.exhaustive.specs.Merge.{on_shelf, reading_at, wrong_of}
@@ -10,32 +12,46 @@ use Rattle.exhaustive.proofs.Opens.{addressed-at}
 use Rattle.exhaustive.proofs.Wrongs.{walked_at, lists-turn, lists-done}
 use Rattle.exhaustive.proofs.wrong.first_wrong.Goals as goal
 
-pub loop-t-init : goal.loop-t-init
-loop-t-init c = (omega arith, refl)
+pub loop-at-init : goal.loop-at-init
+loop-at-init c = refl
 
 pub reading_at-blocks-requires : goal.reading_at-blocks-requires
 reading_at-blocks-requires c =
-    let a : length c.args.ats ≡ 8 = c.well_formed.1.0.1.0.1 in
-    let b : length c.args.counts ≡ 8 = c.well_formed.1.1.0.1.0.1 in
-    addressed-at c.loop-t.t c.args.ats c.args.counts (omega arith) (omega arith) c.requires.1
+    let as₀ = c.args.ats in
+    let cs = c.args.counts in
+    let l = c.loop-at in
+    let z = zip_turn as₀ cs l.yielded c.into_iter-at-iterator.result _ c.next.new.self _ (cc) (cc) l.yielded_by _ c.in-Some.is c.next.ensures.steps in
+    rw (z.2 0, z.3 0) (addressed-at (length l.yielded) as₀ cs z.0 z.1 c.requires.1)
 
 pub wrong_in-w-requires : goal.wrong_in-w-requires
 wrong_in-w-requires c =
-    let a : length c.args.ats ≡ 8 = c.well_formed.1.0.1.0.1 in
-    let b : length c.args.counts ≡ 8 = c.well_formed.1.1.0.1.0.1 in
-    rw c.reading_at-blocks.ensures (walked_at c.args.shelf.now c.loop-t.t c.args.ats c.args.counts (omega arith) (omega arith) c.requires.0).0
+    let as₀ = c.args.ats in
+    let cs = c.args.counts in
+    let l = c.loop-at in
+    let z = zip_turn as₀ cs l.yielded c.into_iter-at-iterator.result _ c.next.new.self _ (cc) (cc) l.yielded_by _ c.in-Some.is c.next.ensures.steps in
+    rw (c.reading_at-blocks.ensures, z.2 0, z.3 0) (walked_at c.args.shelf.now (length l.yielded) as₀ cs z.0 z.1 c.requires.0).0
 
-pub loop-t-preserved : goal.loop-t-preserved
-loop-t-preserved c =
+pub loop-at-preserved : goal.loop-at-preserved
+loop-at-preserved c =
     let s = c.args.shelf.now in
-    let a : length c.args.ats ≡ 8 = c.well_formed.1.0.1.0.1 in
-    let b : length c.args.counts ≡ 8 = c.well_formed.1.1.0.1.0.1 in
-    let q : wrong_of c.wrong_in-w.result ≡ earlier (wrong_of c.loop-t.w) (fault_in (on_shelf s (reading_at (get_or c.args.ats c.loop-t.t 0) (get_or c.args.counts c.loop-t.t 0)))) =
-    c.wrong_in-w.ensures ∙ ap {B = Option _} (λ (r : Reading). earlier (wrong_of c.loop-t.w) (fault_in (on_shelf s r))) c.reading_at-blocks.ensures in
-    (omega arith, lists-turn s c.args.ats c.args.counts (a ∙ sym b) c.loop-t.t (wrong_of c.loop-t.w) (wrong_of c.wrong_in-w.result) (omega arith) q c.loop-t.invariant.1)
+    let as₀ = c.args.ats in
+    let cs = c.args.counts in
+    let l = c.loop-at in
+    let t = length l.yielded in
+    let a : length as₀ ≡ 8 = c.well_formed.1.0.1.0.1 in
+    let b : length cs ≡ 8 = c.well_formed.1.1.0.1.0.1 in
+    let z = zip_turn as₀ cs l.yielded c.into_iter-at-iterator.result _ c.next.new.self _ (cc) (cc) l.yielded_by _ c.in-Some.is c.next.ensures.steps in
+    let e : c.reading_at-blocks.result ≡ reading_at (get_or as₀ t 0) (get_or cs t 0) = rw (← z.2 0, ← z.3 0) c.reading_at-blocks.ensures in
+    let q : wrong_of c.wrong_in-w.result ≡ earlier (wrong_of l.w) (fault_in (on_shelf s (reading_at (get_or as₀ t 0) (get_or cs t 0)))) =
+    c.wrong_in-w.ensures ∙ ap {B = Option _} (λ (r : Reading). earlier (wrong_of l.w) (fault_in (on_shelf s r))) e in
+    rw (length_push l.yielded (c.in-Some.field-0-0, c.in-Some.field-0-1)) (lists-turn s as₀ cs (a ∙ sym b) t (wrong_of l.w) (wrong_of c.wrong_in-w.result) z.0 q l.invariant)
 
 pub returns : goal.returns
 returns c =
-    let a : length c.args.ats ≡ 8 = c.well_formed.1.0.1.0.1 in
-    let b : length c.args.counts ≡ 8 = c.well_formed.1.1.0.1.0.1 in
-    lists-done c.args.shelf.now c.args.ats c.args.counts (a ∙ sym b) c.loop-t.t (wrong_of c.loop-t.w) (omega (arith, c.loop-t-test.false)) c.loop-t.invariant.1
+    let as₀ = c.args.ats in
+    let cs = c.args.counts in
+    let l = c.loop-at in
+    let a : length as₀ ≡ 8 = c.well_formed.1.0.1.0.1 in
+    let b : length cs ≡ 8 = c.well_formed.1.1.0.1.0.1 in
+    let z = zip_end as₀ cs l.yielded c.into_iter-at-iterator.result _ c.next.new.self _ (cc) (cc) l.yielded_by c.in-None.is c.next.ensures.steps in
+    lists-done c.args.shelf.now as₀ cs (a ∙ sym b) (length l.yielded) (wrong_of l.w) (omega arith) l.invariant

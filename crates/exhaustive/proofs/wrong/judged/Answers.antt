@@ -20,13 +20,13 @@ slice_bounds-right_body-end c = omega (arith, c.requires.2)
 
 pub returns-then-right_body : goal.returns-then-right_body
 returns-then-right_body c =
-    let e : right_body c.args.m (take (c.args.end - c.args.start) (drop c.args.start c.args.shelf.now)) ≡ true = sym c.right_body.ensures ∙ c.if-right_body.true in
+    let e : right_body c.args.b.summary (take (c.args.b.end - c.args.b.start) (drop c.args.b.start c.args.shelf.now)) ≡ true = sym c.right_body.ensures ∙ c.if-right_body.true in
     rw e (sym (earlier-end (wrong_of c.args.w)))
 
-pub overflow_sub-start : goal.overflow_sub-start
-overflow_sub-start c = omega (arith, c.requires.0)
+pub overflow_sub-b : goal.overflow_sub-b
+overflow_sub-b c = omega (arith, c.requires.0)
 
 pub returns : goal.returns
 returns c =
-    let e : right_body c.args.m (take (c.args.end - c.args.start) (drop c.args.start c.args.shelf.now)) ≡ false = sym c.right_body.ensures ∙ c.if-right_body.false in
+    let e : right_body c.args.b.summary (take (c.args.b.end - c.args.b.start) (drop c.args.b.start c.args.shelf.now)) ≡ false = sym c.right_body.ensures ∙ c.if-right_body.false in
     rw e c.sooner.ensures

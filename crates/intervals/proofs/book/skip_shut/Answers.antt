@@ -1,5 +1,5 @@
 -- `skip_shut` meets its contract. Assumes nothing.
-use mathlib.Core.Path.{sym, ◌∙◌}
+use mathlib.Core.Path.{◌≡◌, sym, ◌∙◌}
 use native.Mathlib.Omega.{arith}
 use Rattle.intervals.proofs.Marks.{passing_none, passing_more, passing_done}
 use Rattle.intervals.proofs.book.skip_shut.Goals as goal
@@ -14,4 +14,6 @@ pub loop-i-preserved : goal.loop-i-preserved
 loop-i-preserved c = passing_more _ _ _ _ _ _ _ (omega arith) (sym c.opens.ensures ∙ c.if-opens.false) c.loop-i.invariant
 
 pub returns : goal.returns
-returns c = passing_done _ _ _ _ _ _ _ (λ l. absurd (omega arith)) c.loop-i.invariant
+returns c =
+    let e : c.loop-i.i ≡ c.args.n = omega arith in
+    rw e at (passing_done _ _ _ _ _ _ _ (λ l. absurd (omega arith)) c.loop-i.invariant)

@@ -1,10 +1,6 @@
 -- `skip_shut` meets its contract. Assumes nothing.
-use Prim.Native.Nat.{◌-◌}
 use Rattle.intervals.proofs.Marks.{Passing}
 use Rattle.intervals.proofs.book.skip_shut.Given as goal
 
 abbrev pub invariant-loop-i : goal.invariant-loop-i
 invariant-loop-i l = Passing l.ceilings l.n l.kth l.from l.initial.marks l.marks l.i
-
-abbrev pub decreases-loop-i : goal.decreases-loop-i
-decreases-loop-i l = l.n - l.i

@@ -1,7 +1,9 @@
 -- `over_intervals` meets its contract: the state between two intervals. Assumes nothing.
-use mathlib.Core.Path.{refl}
 use native.Mathlib.Omega.{arith}
-use lib.ListN.{length-set}
+use Prim.Native.Nat.{◌+◌, ◌-◌}
+use mathlib.Core.Path.{refl}
+use lib.ListN.{length, set, length-set}
+use Rattle.intervals.proofs.Marks.{marks_filled}
 use Rattle.intervals.proofs.Runnings.{opens-few, skip_past, skip_long, kth-none, ceilings-long, past-none, past_skip, past_rebase, past-few, past_next, past-places, past_enters, past-opens, past_open, past_stop, past-done}
 use Rattle.intervals.proofs.run.over_intervals.Goals as goal
 
@@ -48,22 +50,19 @@ bounds-marks-i c =
 pub overflow_add-i : goal.overflow_add-i
 overflow_add-i c = omega (arith, c.loop-i-test.true, c.requires.few)
 
-pub mark_all-requires : goal.mark_all-requires
-mark_all-requires c =
-    let v = c.loop-i.invariant.0 in
-    (omega (arith, c.loop-i-test.true), simp length-set (omega (arith, v.wide, v.same)))
-
 pub shape_of-marks-then-wrong-none : goal.shape_of-marks-then-wrong-none
 shape_of-marks-then-wrong-none c =
     let l = c.loop-i in
-    omega (arith, c.mark_all.auto.marks, length-set l.marks l.i 2, l.invariant.0.same, skip_long _ _ _ _ _ _ _ c.skip_shut-i.ensures)
+    omega (arith, c.fill.ensures.len, length-set l.marks l.i 2, l.invariant.0.same, skip_long _ _ _ _ _ _ _ c.skip_shut-i.ensures)
 
 pub returns-then-wrong-none : goal.returns-then-wrong-none
 returns-then-wrong-none c =
     let ok = c.requires in
     let l = c.loop-i in
     let t = c.loop-i-test.true in
-    past_stop _ _ _ _ _ _ _ _ _ _ _ _ ok _ _ _ _ _ _ _ _ _ _ l.invariant.0 t _ _ c.meet_all.ensures (l.invariant.1 t) _ c.last_of-last.ensures _ _ _ c.open-turn.ensures _ _ _ c.new.ensures c.if-wrong-none.true (skip_past _ _ _ _ _ _ _ c.skip_shut-i.ensures) c.mark_all.ensures
+    let n = length c.args.starts.now - (l.i + 1) in
+    let rest = marks_filled (set l.marks l.i 2) c.fill.new.self (l.i + 1) n 3 (omega (arith, length-set l.marks l.i 2, l.invariant.0.wide, l.invariant.0.same)) (c.fill.ensures.after (λ y e. e)) in
+    past_stop _ _ _ _ _ _ _ _ _ _ _ _ ok _ _ _ _ _ _ _ _ _ _ l.invariant.0 t _ _ c.meet_all.ensures (l.invariant.1 t) _ c.last_of-last.ensures _ _ _ c.open-turn.ensures _ _ _ c.new.ensures c.if-wrong-none.true (skip_past _ _ _ _ _ _ _ c.skip_shut-i.ensures) rest
 
 pub overflow_add-opened : goal.overflow_add-opened
 overflow_add-opened c =

@@ -3,8 +3,8 @@ use Rattle.shelf.specs.Blocks.{blocks_left}
 use Rattle.list.proofs.Pours.{Counting}
 use Rattle.list.proofs.read.count.Given as goal
 
-abbrev pub invariant-loop-m : goal.invariant-loop-m
-invariant-loop-m l = Counting l.s (blocks_left l.s l.initial.r) l.r l.n
+abbrev pub invariant-loop-b : goal.invariant-loop-b
+invariant-loop-b l = Counting l.s (blocks_left l.s l.initial.reading) l.reading l.n
 
-abbrev pub decreases-loop-m : goal.decreases-loop-m
-decreases-loop-m l = l.r.left
+abbrev pub decreases-loop-b : goal.decreases-loop-b
+decreases-loop-b l = l.reading.left

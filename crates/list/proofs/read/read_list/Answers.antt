@@ -1,8 +1,8 @@
 -- `list::read::read_list` meets its contract: the refusal of finding the list, or what `read_place` answers. Assumes nothing.
-use mathlib.Core.Path.{◌≡◌}
+use mathlib.Core.Path.{sym}
 use lib.ListN.{length}
-use Rattle.lookup.specs.Find.{found, shown_of}
-use Rattle.lookup.specs.declared.find.Shown.TheVariants as shown
+use Rattle.std.proofs.lemmas.Result.{err_from_is_err_and}
+use Rattle.model.specs.Refusal.{number}
 use Rattle.list.specs.Read.{read_list}
 use Rattle.list.proofs.Given.{reads_refused, read_found, read-refused}
 use Rattle.list.proofs.read.read_list.Goals as goal
@@ -10,18 +10,17 @@ use Rattle.list.proofs.read.read_list.Goals as goal
 pub read_place-requires : goal.read_place-requires
 read_place-requires c =
     let a = c.args in
-    let e : shown_of (found a.term a.s.now) ≡ shown.List c.in-List.list = cc in
-    (read_found a.term a.s.now c.in-List.list e).0
+    (read_found a.term a.s.now c.in_ok-list.list (sym c.in_ok-list.ensures)).0
 
-pub returns-in-List : goal.returns-in-List
-returns-in-List c =
+pub returns : goal.returns
+returns c =
     let a = c.args in
-    let e : shown_of (found a.term a.s.now) ≡ shown.List c.in-List.list = cc in
-    rw ((read_found a.term a.s.now c.in-List.list e).1 (length a.docids.now) (length a.scores.now)) c.read_place.ensures
+    rw ((read_found a.term a.s.now c.in_ok-list.list (sym c.in_ok-list.ensures)).1 (length a.docids.now) (length a.scores.now)) c.read_place.ensures
 
-pub returns-in-Refused : goal.returns-in-Refused
-returns-in-Refused c =
+pub returns-in_err-list : goal.returns-in_err-list
+returns-in_err-list c =
     let a = c.args in
-    let e : shown_of (found a.term a.s.now) ≡ shown.Refused c.in-Refused.n c.in-Refused.o = cc in
-    reads_refused (read_list a.term a.s.now (length a.docids.now) (length a.scores.now)) c.in-Refused.n c.in-Refused.o a.docids.now a.scores.now
-    (read-refused a.term a.s.now c.in-Refused.n c.in-Refused.o (length a.docids.now) (length a.scores.now) e)
+    let p = err_from_is_err_and c.from_residual.result c.from_residual.ensures.1 in
+    let r = c.in_err-list.field-0.0 in
+    rw (p.1, p.2) (reads_refused (read_list a.term a.s.now (length a.docids.now) (length a.scores.now)) r a.docids.now a.scores.now
+    (read-refused a.term a.s.now (number r.fault) r.offset (length a.docids.now) (length a.scores.now) (sym c.in_err-list.ensures)))

@@ -5,6 +5,8 @@ use lib.ListN.{length}
 use Rattle.shelf.specs.Walk.{blocks_at}
 use Rattle.shelf.specs.Check.{bad_body}
 use Rattle.std.specs.Prelude.{Some, None}
+use Rattle.model.specs.Refusal.{refusal}
+use Rattle.model.specs.declared.refusal.Fault.TheVariants as fault
 use Rattle.list.specs.Read.{count_of, read_blocks}
 use Rattle.list.specs.Fill.{Fillable}
 use Rattle.list.proofs.Given.{reads_refused, read_bad, read_short, reads_filled}
@@ -16,8 +18,8 @@ returns-then-docids-n c =
     let bs = blocks_at a.s.now a.list.at a.list.count in
     let right : bad_body bs ≡ None = cc in
     let n : count_of bs ≡ c.count-n.result = sym c.count-n.ensures in
-    reads_refused (read_blocks bs (length a.docids.now) (length a.scores.now)) 9 0 a.docids.now a.scores.now
-    (read_short bs (length a.docids.now) (length a.scores.now) right (omega arith))
+    rw c.at-then-docids-n.ensures (reads_refused (read_blocks bs (length a.docids.now) (length a.scores.now)) (refusal fault.Room 0) a.docids.now a.scores.now
+    (read_short bs (length a.docids.now) (length a.scores.now) right (omega arith)))
 
 pub returns-then-scores-n : goal.returns-then-scores-n
 returns-then-scores-n c =
@@ -25,8 +27,8 @@ returns-then-scores-n c =
     let bs = blocks_at a.s.now a.list.at a.list.count in
     let right : bad_body bs ≡ None = cc in
     let n : count_of bs ≡ c.count-n.result = sym c.count-n.ensures in
-    reads_refused (read_blocks bs (length a.docids.now) (length a.scores.now)) 9 0 a.docids.now a.scores.now
-    (read_short bs (length a.docids.now) (length a.scores.now) right (omega arith))
+    rw c.at-then-scores-n.ensures (reads_refused (read_blocks bs (length a.docids.now) (length a.scores.now)) (refusal fault.Room 0) a.docids.now a.scores.now
+    (read_short bs (length a.docids.now) (length a.scores.now) right (omega arith)))
 
 pub fill-requires : goal.fill-requires
 fill-requires c =
@@ -41,11 +43,11 @@ returns-in-Some c =
     let a = c.args in
     let bs = blocks_at a.s.now a.list.at a.list.count in
     let wrong : bad_body bs ≡ Some c.in-Some.o = cc in
-    reads_refused (read_blocks bs (length a.docids.now) (length a.scores.now)) 8 c.in-Some.o a.docids.now a.scores.now
-    (read_bad bs (length a.docids.now) (length a.scores.now) c.in-Some.o wrong)
+    rw c.at.ensures (reads_refused (read_blocks bs (length a.docids.now) (length a.scores.now)) (refusal fault.Body c.in-Some.o) a.docids.now a.scores.now
+    (read_bad bs (length a.docids.now) (length a.scores.now) c.in-Some.o wrong))
 
-pub returns-else-scores-n : goal.returns-else-scores-n
-returns-else-scores-n c =
+pub returns : goal.returns
+returns c =
     let a = c.args in
     let bs = blocks_at a.s.now a.list.at a.list.count in
     let right : bad_body bs ≡ None = cc in

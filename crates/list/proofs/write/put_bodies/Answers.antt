@@ -1,31 +1,32 @@
 -- `list::put_bodies` meets its contract. The invariant: to store the bodies of the blocks that are left gives what is asked. Assumes nothing.
-use borrow.Author.Rules.{rules}
-use native.Mathlib.Omega.{arith}
+use Rattle.std.specs.Iterator.Adapters.{zip_first, zip_second}
+use Rattle.std.specs.Slice.Iter.{chunks_size}
+use mathlib.Core.Path.{◌≡◌, ap, ◌∙◌}
+use mathlib.Core.List.{List}
+use Rattle.model.specs.Post.{Post}
 use Rattle.model.proofs.Storing.{rest-start, rest_end}
-use Rattle.list.proofs.Packing.{Turn, turn, bodies-room, bodies-on, bodies-end}
+use Rattle.list.specs.Write.{packed, bodies_bytes}
+use Rattle.list.proofs.Packing.{docs_left, scores_left, cut, cut_turn, cut_rest, cut_none, bodies-room, bodies-on, bodies-end}
 use Rattle.list.proofs.write.put_bodies.Goals as goal
 
-pub loop-a-init : goal.loop-a-init
-loop-a-init c = (search rules, rest-start _ _ _)
+pub loop-d-init : goal.loop-d-init
+loop-d-init c =
+    let z = c.into_iter-d-iterator.result in
+    let d : docs_left z ≡ c.args.docs.now = cc in
+    let s : scores_left z ≡ c.args.scores.now = cc in
+    let m : chunks_size (zip_first z) ≡ 100 = cc in
+    let n : chunks_size (zip_second z) ≡ 100 = cc in
+    (cut z c.args.docs.now c.args.scores.now m n d s c.requires.0, rw (d, s) (rest-start _ _ _))
 
 pub put_body_field-j-requires : goal.put_body_field-j-requires
 put_body_field-j-requires c =
-    let here : Turn c.args.docs.now c.args.scores.now c.loop-a.a c.block_end-e.result = turn c.args.docs.now c.args.scores.now c.loop-a.a c.block_end-e.result c.requires.0 c.loop-a-test.true c.block_end-e.ensures in
-    let t = here in
-    (t.some, t.few, t.even, bodies-room c.args.strip t c.loop-a.invariant.1 c.requires.1)
+    let t = cut_turn c.loop-d.d-iterator c.next.new.self c.in-Some.d c.in-Some.s c.loop-d.invariant.0 c.in-Some.ensures.steps in
+    (t.some, t.few, t.even, bodies-room c.args.strip t c.loop-d.invariant.1 c.requires.1)
 
-pub loop-a-smaller : goal.loop-a-smaller
-loop-a-smaller c =
-    let here : Turn c.args.docs.now c.args.scores.now c.loop-a.a c.block_end-e.result = turn c.args.docs.now c.args.scores.now c.loop-a.a c.block_end-e.result c.requires.0 c.loop-a-test.true c.block_end-e.ensures in
-    let t = here in omega (arith, t.onward, t.within)
-
-pub loop-a-preserved : goal.loop-a-preserved
-loop-a-preserved c =
-    let here : Turn c.args.docs.now c.args.scores.now c.loop-a.a c.block_end-e.result = turn c.args.docs.now c.args.scores.now c.loop-a.a c.block_end-e.result c.requires.0 c.loop-a-test.true c.block_end-e.ensures in
-    let t = here in
-    (t.within, bodies-on c.args.strip t c.loop-a.invariant.1 c.put_body_field-j.ensures)
+pub loop-d-preserved : goal.loop-d-preserved
+loop-d-preserved c =
+    let t = cut_turn c.loop-d.d-iterator c.next.new.self c.in-Some.d c.in-Some.s c.loop-d.invariant.0 c.in-Some.ensures.steps in
+    (cut_rest c.loop-d.d-iterator c.next.new.self c.in-Some.d c.in-Some.s c.loop-d.invariant.0 c.in-Some.ensures.steps, bodies-on c.args.strip t c.loop-d.invariant.1 c.put_body_field-j.ensures)
 
 pub returns : goal.returns
-returns c =
-    let a = c.args in
-    rest_end (bodies-end a.strip c.loop-a.a a.docs.now a.scores.now c.loop-a-test.false) c.loop-a.invariant.1
+returns c = rest_end (ap (λ (ps : List Post). bodies_bytes c.args.strip (packed 64 ps)) (cut_none c.loop-d.d-iterator c.in-None.ensures.steps) ∙ bodies-end c.args.strip) c.loop-d.invariant.1

@@ -1,7 +1,5 @@
 -- `list::put_list` meets its contract: the header, the summaries, the bodies, one after the other. Assumes nothing.
 use native.Mathlib.Omega.{arith}
-use Prim.Native.Nat.{◌+◌, ◌-◌, ◌/◌}
-use lib.ListN.{length}
 use Rattle.model.specs.Post.{postings}
 use Rattle.model.proofs.Posts.{count_of}
 use Rattle.model.proofs.Storing.{stored-append, stored_as, stored-length}
@@ -19,13 +17,13 @@ put_header-a-requires c =
 pub put_summaries-b-requires : goal.put_summaries-b-requires
 put_summaries-b-requires c =
     let h = c.put_header-a.ensures in
-    (c.requires.0, omega (arith, list-room c.args.strip c.args.term (postings c.args.docs.now c.args.scores.now), c.requires.1, header_past c.args.term ((length c.args.docs.now + 100 - 1) / 100) h, stored-length h))
+    (c.requires.0, omega (arith, list-room c.args.strip c.args.term (postings c.args.docs.now c.args.scores.now), c.requires.1, header_past c.args.term c.div_ceil-count.result h, stored-length h))
 
 pub put_bodies-requires : goal.put_bodies-requires
 put_bodies-requires c =
     let h = c.put_header-a.ensures in
     let s = c.put_summaries-b.ensures in
-    (c.requires.0, omega (arith, list-room c.args.strip c.args.term (postings c.args.docs.now c.args.scores.now), c.requires.1, header_past c.args.term ((length c.args.docs.now + 100 - 1) / 100) h, stored-length h, s.past, stored-length s))
+    (c.requires.0, omega (arith, list-room c.args.strip c.args.term (postings c.args.docs.now c.args.scores.now), c.requires.1, header_past c.args.term c.div_ceil-count.result h, stored-length h, s.past, stored-length s))
 
 pub returns : goal.returns
 returns c =

@@ -1,58 +1,46 @@
 -- `lookup::find::body_shown` meets its contract: each return is a law of `Shows`. Assumes nothing.
-use Prim.Native.Nat.{◌<◌, ◌≤◌}
-use mathlib.Core.Path.{◌≡◌, sym, ◌∙◌}
-use mathlib.Core.Bool.{true, false}
+use mathlib.Core.Path.{sym, ◌∙◌}
 use native.Mathlib.Omega.{arith}
-use lib.ListN.{length, drop}
-use Rattle.lookup.specs.Show.{bodies_from, has_block}
-use Rattle.lookup.specs.declared.find.Shown.TheVariants as shown
+use Rattle.model.specs.Refusal.{number}
+use Rattle.model.proofs.Refusals.{refused_up}
 use Rattle.lookup.proofs.Shows.{has_facts, body-here, body-cut, body-none, body_refused}
-use Rattle.shelf.specs.Walk.{bodies}
 use Rattle.lookup.proofs.find.body_shown.Goals as goal
+
+pub returns-in_err-list : goal.returns-in_err-list
+returns-in_err-list c =
+    let a = c.args in
+    let r = c.in_err-list.field-0.0 in
+    refused_up c.from_residual.result r c.from_residual.ensures.1
+    ∙ rw c.in_err-list.was (sym (body_refused a.s.now (number r.fault) r.offset a.j))
 
 pub returns-then-not-has_block : goal.returns-then-not-has_block
 returns-then-not-has_block c =
     let a = c.args in
-    let f : a.shown ≡ shown.List c.in-List.p = cc in
-    let e : has_block a.s.now c.in-List.p a.j ≡ false = sym c.has_block.ensures ∙ c.if-not-has_block.true in
-    rw f (sym (body-none a.s.now c.in-List.p a.j e))
+    rw (c.at.ensures, c.in_ok-list.was) (sym (body-none a.s.now c.in_ok-list.list a.j (sym c.has_block.ensures ∙ c.if-not-has_block.true)))
 
-pub overflow_add-p : goal.overflow_add-p
-overflow_add-p c =
-    let has : let a = c.args in has_block a.s.now c.in-List.p a.j ≡ true = sym c.has_block.ensures ∙ c.if-not-has_block.false in
-    let fits : let a = c.args in (a.j < c.in-List.p.count) × (bodies_from c.in-List.p ≤ length a.s.now) = let a = c.args in has_facts a.s.now c.in-List.p a.j (has) in
-    omega (arith, (fits).1)
+pub overflow_add-list : goal.overflow_add-list
+overflow_add-list c =
+    let fits = has_facts c.args.s.now c.in_ok-list.list c.args.j (sym c.has_block.ensures ∙ c.if-not-has_block.false) in
+    omega (arith, fits.1)
 
-pub overflow_add-p-in-List : goal.overflow_add-p-in-List
-overflow_add-p-in-List c =
-    let has : let a = c.args in has_block a.s.now c.in-List.p a.j ≡ true = sym c.has_block.ensures ∙ c.if-not-has_block.false in
-    let fits : let a = c.args in (a.j < c.in-List.p.count) × (bodies_from c.in-List.p ≤ length a.s.now) = let a = c.args in has_facts a.s.now c.in-List.p a.j (has) in
-    omega (arith, (fits).1)
+pub overflow_add-list-2 : goal.overflow_add-list-2
+overflow_add-list-2 c =
+    let fits = has_facts c.args.s.now c.in_ok-list.list c.args.j (sym c.has_block.ensures ∙ c.if-not-has_block.false) in
+    omega (arith, fits.1)
 
 pub overflow_cast-j : goal.overflow_cast-j
 overflow_cast-j c =
-    let has : let a = c.args in has_block a.s.now c.in-List.p a.j ≡ true = sym c.has_block.ensures ∙ c.if-not-has_block.false in
-    let fits : let a = c.args in (a.j < c.in-List.p.count) × (bodies_from c.in-List.p ≤ length a.s.now) = let a = c.args in has_facts a.s.now c.in-List.p a.j (has) in
-    omega (arith, (fits).0)
+    let fits = has_facts c.args.s.now c.in_ok-list.list c.args.j (sym c.has_block.ensures ∙ c.if-not-has_block.false) in
+    omega (arith, fits.0)
 
-pub returns-in-Past : goal.returns-in-Past
-returns-in-Past c =
-    let has : let a = c.args in has_block a.s.now c.in-List.p a.j ≡ true = sym c.has_block.ensures ∙ c.if-not-has_block.false in
+pub returns-in_default : goal.returns-in_default
+returns-in_default c =
     let a = c.args in
-    let f : a.shown ≡ shown.List c.in-List.p = cc in
-    let q : bodies a.j (bodies_from c.in-List.p) (drop (bodies_from c.in-List.p) a.s.now) ≡ done c.in-Past.b = cc in
-    rw (f, body-here a.s.now c.in-List.p a.j (has) c.in-Past.b q) c.part_at.ensures
+    let r = c.in_default.field-0 in
+    let cut = body-cut a.s.now c.in_ok-list.list a.j (sym c.has_block.ensures ∙ c.if-not-has_block.false) (number r.fault) r.offset (sym c.in_default.ensures) in
+    rw (c.at-in_default.ensures, c.in_ok-list.was) (sym cut)
 
-pub returns-in-Refused-bodies_at : goal.returns-in-Refused-bodies_at
-returns-in-Refused-bodies_at c =
-    let has : let a = c.args in has_block a.s.now c.in-List.p a.j ≡ true = sym c.has_block.ensures ∙ c.if-not-has_block.false in
+pub returns : goal.returns
+returns c =
     let a = c.args in
-    let f : a.shown ≡ shown.List c.in-List.p = cc in
-    let q : bodies a.j (bodies_from c.in-List.p) (drop (bodies_from c.in-List.p) a.s.now) ≡ refused c.in-Refused-bodies_at.n c.in-Refused-bodies_at.o = cc in
-    rw (f, body-cut a.s.now c.in-List.p a.j (has) c.in-Refused-bodies_at.n c.in-Refused-bodies_at.o q)
-
-pub returns-in-Refused : goal.returns-in-Refused
-returns-in-Refused c =
-    let a = c.args in
-    let f : a.shown ≡ shown.Refused c.in-Refused.n c.in-Refused.o = cc in
-    rw f (sym (body_refused a.s.now c.in-Refused.n c.in-Refused.o a.j))
+    rw (c.in_ok-list.was, body-here a.s.now c.in_ok-list.list a.j (sym c.has_block.ensures ∙ c.if-not-has_block.false) c.in-Ok.at (sym c.in-Ok.ensures)) c.part_at.ensures

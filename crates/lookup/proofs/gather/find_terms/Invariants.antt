@@ -2,8 +2,8 @@
 use Rattle.lookup.proofs.Gathers.{Noting}
 use Rattle.lookup.proofs.gather.find_terms.Given as goal
 
-abbrev pub invariant-loop-p : goal.invariant-loop-p
-invariant-loop-p l = Noting l.s l.terms l.n l.ats l.counts l.w
+abbrev pub invariant-loop-list : goal.invariant-loop-list
+invariant-loop-list l = Noting l.s l.terms l.n l.ats l.counts l.walk
 
-abbrev pub decreases-loop-p : goal.decreases-loop-p
-decreases-loop-p l = l.w.left
+abbrev pub decreases-loop-list : goal.decreases-loop-list
+decreases-loop-list l = l.walk.left

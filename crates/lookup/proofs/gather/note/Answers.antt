@@ -1,5 +1,5 @@
 -- `lookup::gather::note` meets its contract. The invariant: the list is noted for the terms before i. Assumes nothing.
-use Prim.Native.Nat.{◌-◌, ◌<◌}
+use Prim.Native.Nat.{◌<◌}
 use native.Mathlib.Omega.{arith}
 use mathlib.Core.Path.{◌≡◌, sym, ◌∙◌}
 use lib.ListN.{length, get_or, take}
@@ -13,7 +13,7 @@ loop-i-preserved c =
     let a = c.args in
     let l = c.loop-i in
     let h : l.i < length a.terms.now = omega arith in
-    let same : get_or (take (a.n - 0) a.terms.now) l.i 0 ≡ get_or a.terms.now l.i 0 = get_or-take (a.n - 0) a.terms.now l.i 0 (omega arith) in
+    let same : get_or (take a.n a.terms.now) l.i 0 ≡ get_or a.terms.now l.i 0 = get_or-take a.n a.terms.now l.i 0 (omega arith) in
     (elim c.if-term-list.branch [
       | then-term-list w ↦ (
         w.ats-is ∙ rw l.invariant.0 (noted_here a.list.term a.list.at l.i a.terms.now a.ats.now h (sym same ∙ w.if-term-list.true)),

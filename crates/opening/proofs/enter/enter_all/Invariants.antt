@@ -1,10 +1,6 @@
 -- `enter_all` meets its contract: the lists that are entered, and those that are not yet. Assumes nothing.
-use Prim.Native.Nat.{◌-◌}
 use Rattle.opening.proofs.Standings.{Entering}
 use Rattle.opening.proofs.enter.enter_all.Given as goal
 
 abbrev pub invariant-loop-t : goal.invariant-loop-t
 invariant-loop-t l = Entering 8 l.shelf l.los l.his l.tops l.counts l.bodies l.weights l.was l.mets l.initial.hs l.initial.docs l.initial.scores l.hs l.docs l.scores l.fresh l.wrong l.t
-
-abbrev pub decreases-loop-t : goal.decreases-loop-t
-decreases-loop-t l = 8 - l.t

@@ -1,10 +1,6 @@
 -- `meet_all` meets its contract: the lists that have moved, and those that have not. Assumes nothing.
-use Prim.Native.Nat.{◌-◌}
 use Rattle.opening.proofs.Meets.{Moving}
 use Rattle.opening.proofs.meet.meet_all.Given as goal
 
 abbrev pub invariant-loop-t : goal.invariant-loop-t
 invariant-loop-t l = Moving l.los l.his l.ends l.initial.ats l.initial.mets l.ats l.mets l.d l.t
-
-abbrev pub decreases-loop-t : goal.decreases-loop-t
-decreases-loop-t l = 8 - l.t

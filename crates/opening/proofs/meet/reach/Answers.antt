@@ -1,24 +1,19 @@
 -- `reach` meets its contract: all blocks passed end below the docid. Assumes nothing.
-use Prim.Native.Nat.{ℕ, ◌<◌}
-use native.Mathlib.Omega.{arith}
-use lib.ListN.{get_or}
-use Rattle.model.proofs.Lists.{up_to_next}
+use Rattle.std.proofs.Common.{◌≤◌, ◌<◌, rules, tests}
+use Rattle.std.proofs.lemmas.Iterator.{IsFirst-from_position, YieldsList-from_slice}
+use Rattle.std.proofs.option.Match.{if_some, if_none}
+use Rattle.opening.proofs.Numbers.{first_found, first_end}
+use Rattle.opening.proofs.Meets.{reaches_first}
 use Rattle.opening.proofs.meet.reach.Goals as goal
 
-pub loop-j-init : goal.loop-j-init
-loop-j-init c = (omega arith, omega arith, λ i a b. absurd (omega arith))
+pub returns-in-Some : goal.returns-in-Some
+returns-in-Some c =
+    let d = c.args.d in
+    let first = if_some _ _ _ c.in-Some.is (IsFirst-from_position _ _ _ (λ x. d ≤ x) (λ x. x < d) c.position.ensures.ran (YieldsList-from_slice _ c.iter.ensures.rest) (λ x q k. search (rules, tests)) (λ x q k. search (rules, tests))) in
+    reaches_first _ _ _ _ _ (first_found _ _ _ _ _ _ first.0 first.1 first.2)
 
-pub returns-then-d-his : goal.returns-then-d-his
-returns-then-d-his c =
-    let v = c.loop-j.invariant in
-    record { on = v.0; upto = v.1; below = v.2; ends = λ l. c.if-d-his.true }
-
-pub loop-j-preserved : goal.loop-j-preserved
-loop-j-preserved c =
-    let v = c.loop-j.invariant in
-    (omega arith, omega arith, up_to_next (λ (i : ℕ). get_or c.args.his.now i 0 < c.args.d) _ _ v.2 c.if-d-his.false)
-
-pub returns : goal.returns
-returns c =
-    let v = c.loop-j.invariant in
-    record { on = v.0; upto = v.1; below = v.2; ends = λ l. absurd (omega arith) }
+pub returns-in-None : goal.returns-in-None
+returns-in-None c =
+    let d = c.args.d in
+    let all = if_none _ _ c.in-None.is (IsFirst-from_position _ _ _ (λ x. d ≤ x) (λ x. x < d) c.position.ensures.ran (YieldsList-from_slice _ c.iter.ensures.rest) (λ x q k. search (rules, tests)) (λ x q k. search (rules, tests))) in
+    reaches_first _ _ _ _ _ (first_end _ _ _ _ _ c.requires.0 c.requires.1 all)

@@ -1,35 +1,10 @@
 use Prim.Native.Nat.{◌+◌, ◌*◌, ◌≤◌}
-use mathlib.Core.Path.{◌≡◌, sym}
+use mathlib.Core.Path.{◌≡◌}
 use native.Mathlib.Omega.{arith}
 use lib.ListN.{length, take}
 use lib.Seq.{length-take-le}
-use Rattle.prune.proofs.Gathers.{list-few, list_asc, merge-few, merge-whole, none_added}
+use Rattle.prune.proofs.Gathers.{list-few, list_asc, merge-few, merge-whole}
 use Rattle.prune.proofs.cut.add_list.Goals as goal
-
-pub returns-then-los-eq0 : goal.returns-then-los-eq0
-returns-then-los-eq0 c = none_added c.args.lim c.args.n c.args.los.now c.args.his.now c.args.run.now (omega arith) (omega (arith, c.requires.2))
-
-pub slice_bounds-merge_cuts-end-2 : goal.slice_bounds-merge_cuts-end-2
-slice_bounds-merge_cuts-end-2 c =
-    let a = c.args in
-    let q = c.requires in
-    sym (length-take-le a.n a.run.now (omega (arith, q.2)))
-
-pub slice_bounds-one-end : goal.slice_bounds-one-end
-slice_bounds-one-end c =
-    let a = c.args in
-    let q = c.requires in
-    let p = c.list_cuts-m in
-    let few : p.result ≤ 2 * length a.los.now = list-few a.lim a.los.now a.his.now _ p.new.out p.result p.ensures in
-    omega (arith, p.auto.out, q.4)
-
-pub slice_bounds-merge_cuts-end-3 : goal.slice_bounds-merge_cuts-end-3
-slice_bounds-merge_cuts-end-3 c =
-    let a = c.args in
-    let q = c.requires in
-    let p = c.list_cuts-m in
-    let few : p.result ≤ 2 * length a.los.now = list-few a.lim a.los.now a.his.now _ p.new.out p.result p.ensures in
-    sym (length-take-le p.result p.new.out (omega (arith, p.auto.out, q.4)))
 
 pub merge_cuts-r-requires : goal.merge_cuts-r-requires
 merge_cuts-r-requires c =

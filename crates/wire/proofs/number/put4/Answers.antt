@@ -1,12 +1,13 @@
--- `wire::put4` meets its contract: two stores, one after the other. Assumes nothing.
-use Rattle.model.proofs.Storing.{stored-append, stored_as, stored-length}
-use Rattle.wire.proofs.Numbers.{be-length, be-more}
-use Prim.Native.Nat.{◌/◌}
+-- `wire::put4` meets its contract: the four bytes, put over what stood there. Assumes nothing.
+use Rattle.model.proofs.Storing.{stored_over}
+use Rattle.wire.specs.Number.{be}
+use Rattle.wire.proofs.Numbers.{be-length, be_4}
+use Prim.Native.Nat.{◌+◌, ◌-◌}
 use native.Mathlib.Omega.{arith}
+use mathlib.Core.Path.{◌∙◌}
 use Rattle.wire.proofs.number.put4.Goals as goal
 
-pub put1-requires : goal.put1-requires
-put1-requires c = omega (arith, stored-length c.put3-p.ensures, be-length 3 (c.args.x / 256))
-
 pub returns : goal.returns
-returns c = stored_as (be-more 3 c.args.x) (stored-append c.put3-p.ensures c.put1.ensures)
+returns c =
+    let a = c.args in
+    stored_over a.out.now (be 4 a.x) c.copy_from_slice.new.self a.at 4 (a.at + 4 - a.at) (c.copy_from_slice.ensures.after ∙ c.to_be_bytes.ensures ∙ be_4 a.x) (be-length 4 a.x) (omega arith) (omega arith)

@@ -1,9 +1,0 @@
--- `trial::writing::one_writing` meets its contract. The loop keeps the lengths of the lent runs; the measure is how many turns are left. Assumes nothing.
-use Rattle.std.proofs.Common.{◌≡◌, ◌-◌, length}
-use Rattle.trial.proofs.writing.one_writing.Given as goal
-
-abbrev pub invariant-loop-t : goal.invariant-loop-t
-invariant-loop-t l = (length l.out ≡ length l.initial.out)
-
-abbrev pub decreases-loop-t : goal.decreases-loop-t
-decreases-loop-t l = 16 - l.t
