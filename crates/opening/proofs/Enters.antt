@@ -9,10 +9,10 @@ use borrow.Author.Tests.{eq-eqb, ne_eqb}
 use Rattle.model.proofs.Lists.{split}
 use Rattle.block.specs.Body.{right_body, body_run}
 use Rattle.block.specs.declared.summary.Summary.{Summary}
-use Rattle.scan.specs.Load.{Loads, head_of}
+use Rattle.scan.specs.Load.{Loads, head_of, wrong_body}
 use Rattle.scan.specs.declared.head.Head.{Head}
-use Rattle.scan.specs.declared.load.Loaded.{Loaded}
-use Rattle.scan.specs.declared.load.Loaded.TheVariants.{Stands, Wrong}
+use Rattle.std.specs.Prelude.{Result, Ok, Err}
+use Rattle.scan.specs.declared.load.WrongBody.{WrongBody}
 use Rattle.opening.specs.Table.{gap, sum_in}
 use Rattle.opening.specs.Enter.{bytes_in, Enters}
 use Rattle.opening.specs.declared.enter.Entry.{Entry}
@@ -25,31 +25,31 @@ module _ (s los his tops counts bodies : List ℕ) (w t was m : ℕ) (h : Head) 
   enter-gap g n e q = record { answer = rw (ne_eqb m was n, eq-eqb m gap e, q); docids = rw (ne_eqb m was n, eq-eqb m gap e); scored = rw (ne_eqb m was n, eq-eqb m gap e) }
 
   -- a block loaded by a summary and a body that the code has worked out
-  module _ (n : m ≡ was → ⊥) (k : m ≡ gap → ⊥) (sum : Summary) (body ds' ss' : List ℕ) (r : Loaded) (f : sum ≡ sum_in s los his tops counts bodies m) (b : body ≡ bytes_in s bodies m)
+  module _ (n : m ≡ was → ⊥) (k : m ≡ gap → ⊥) (sum : Summary) (body ds' ss' : List ℕ) (r : Result Head WrongBody) (f : sum ≡ sum_in s los his tops counts bodies m) (b : body ≡ bytes_in s bodies m)
       (l : Loads sum body w t ds ss ds' ss' r) where
     loads : Loads (sum_in s los his tops counts bodies m) (bytes_in s bodies m) w t ds ss ds' ss' r
     loads = rw (f, b) at l
 
-    pub enter_stands : (g : Head) → r ≡ Stands g → Enters s los his tops counts bodies w t was m h ds ss ds' ss' (record { head = g; fresh = 1; wrong = length s })
+    pub enter_stands : (g : Head) → r ≡ Ok g → Enters s los his tops counts bodies w t was m h ds ss ds' ss' (record { head = g; fresh = 1; wrong = length s })
     enter_stands g e =
         let own = sum_in s los his tops counts bodies m in
         let a = loads.answer in
         split (right_body own (bytes_in s bodies m))
-        (λ x. let y : r ≡ Stands (head_of w t (body_run own (bytes_in s bodies m))) = rw x at a in
+        (λ x. let y : r ≡ Ok (head_of w t (body_run own (bytes_in s bodies m))) = rw x at a in
         let z : g ≡ head_of w t (body_run own (bytes_in s bodies m)) = cc in
         record {
           answer = rw (ne_eqb m was n, ne_eqb m gap k, x, z);
           docids = rw (ne_eqb m was n, ne_eqb m gap k) loads.docids;
           scored = rw (ne_eqb m was n, ne_eqb m gap k) loads.scored;
         })
-        (λ x. let y : r ≡ Wrong = rw x at a in let z : ◌≡◌ {A = ℕ} 0 1 = cc in absurd (omega arith))
+        (λ x. let y : r ≡ Err wrong_body = rw x at a in let z : ◌≡◌ {A = ℕ} 0 1 = cc in absurd (omega arith))
 
-    pub enter-wrong : (g : Head) → g ≡ head_of w t [] → r ≡ Wrong → Enters s los his tops counts bodies w t was m h ds ss ds' ss' (record { head = g; fresh = 1; wrong = get_or bodies m 0 })
+    pub enter-wrong : (g : Head) → g ≡ head_of w t [] → r ≡ Err wrong_body → Enters s los his tops counts bodies w t was m h ds ss ds' ss' (record { head = g; fresh = 1; wrong = get_or bodies m 0 })
     enter-wrong g q e =
         let own = sum_in s los his tops counts bodies m in
         let a = loads.answer in
         split (right_body own (bytes_in s bodies m))
-        (λ x. let y : r ≡ Stands (head_of w t (body_run own (bytes_in s bodies m))) = rw x at a in let z : ◌≡◌ {A = ℕ} 0 1 = cc in absurd (omega arith))
+        (λ x. let y : r ≡ Ok (head_of w t (body_run own (bytes_in s bodies m))) = rw x at a in let z : ◌≡◌ {A = ℕ} 0 1 = cc in absurd (omega arith))
         (λ x. record {
           answer = rw (ne_eqb m was n, ne_eqb m gap k, x, q);
           docids = rw (ne_eqb m was n, ne_eqb m gap k) loads.docids;

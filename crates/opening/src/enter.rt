@@ -8,7 +8,6 @@ ghost use Rattle.opening.specs.Enter.{Loadable, Enters, Enterable, EntersAll};
 
 use block::summary::Summary;
 use scan::head::Head;
-use scan::load::Loaded;
 
 // The body whose tag stands at a place.
 fn body_at(s: &[u8], at: usize) -> &[u8]
@@ -85,12 +84,12 @@ fn enter(
         strip: block::body::is_strip(shelf, at),
     };
     match scan::load::load(body_at(shelf, at), m, weight, t, docs, scores) {
-        Loaded::Stands(h) => Entry {
+        Ok(h) => Entry {
             head: h,
             fresh: 1,
             wrong: none,
         },
-        Loaded::Wrong => Entry {
+        Err(_) => Entry {
             head: ended(weight, t),
             fresh: 1,
             wrong: at,

@@ -15,7 +15,7 @@ use Rattle.query.specs.Answers.{Carries, zeros as no_terms}
 use Rattle.query.specs.declared.read.Query.{Query}
 use Rattle.shelf.specs.Walk as shelf
 use Rattle.shelf.specs.Walk.{walk}
-use Rattle.lookup.specs.Gather.{place_at, Finds}
+use Rattle.lookup.specs.Gather.{place_at, Located}
 use Rattle.lookup.specs.Table.{Gatherable}
 use Rattle.lookup.specs.declared.gather.Found.{Found}
 use Rattle.lookup.proofs.Terms.{found_gatherable}
@@ -59,7 +59,7 @@ module _ (k : ℕ) (fs cs ms : List ℕ) where
   blanks_answer (suc m) ls = ap (over k fs cs ms) (sym (append_assoc ls (blank 0 ∷ []) (blanks m))) ∙ blanks_answer m (ls ++ (blank 0 ∷ [])) ∙ one-blank 0 ls
 
 -- ---- the arrays that are handed on
-module _ (s : List ℕ) (x : Question) (c : Query) (h : Carries x c) (n : c.n ≤ max_terms) (ls : List shelf.Listing) (w : walk s ≡ done ls) (r : Found) (f : Finds s c.terms c.n r) where
+module _ (s : List ℕ) (x : Question) (c : Query) (h : Carries x c) (n : c.n ≤ max_terms) (ls : List shelf.Listing) (w : walk s ≡ done ls) (r : Found) (f : Located c.terms c.n ls r) where
   fits : c.n ≤ length c.terms
   fits = omega (arith, h.terms.count, ap length h.terms.whole, length-append (asked_terms x.terms) (drop c.n no_terms))
 
@@ -69,7 +69,7 @@ module _ (s : List ℕ) (x : Question) (c : Query) (h : Carries x c) (n : c.n �
       let xs = map (λ (y : ℕ). (place_at y ls).count) (take c.n c.terms) in
       let size : length xs ≡ c.n = length-map (take c.n c.terms) (λ (y : ℕ). (place_at y ls).count) ∙ length-take-le c.n c.terms fits in
       let e : length xs + (t - c.n) ≡ t = omega (arith, size) in
-      rw (f.counts, w) (rw e at (get_or-append-add xs (replicate (max_terms - c.n) 0) (t - c.n) 0) ∙ get_or-replicate (max_terms - c.n) (t - c.n) 0 0 (omega arith))
+      rw f.counts (rw e at (get_or-append-add xs (replicate (max_terms - c.n) 0) (t - c.n) 0) ∙ get_or-replicate (max_terms - c.n) (t - c.n) 0 0 (omega arith))
 
   all-ready : Gatherable s r.ats r.counts max_terms
   all-ready =

@@ -1,2 +1,3 @@
 -- What the pruned ranker answers, and what the book's runs then hold, for every input.
+pub mod Stopped
 pub mod Pruned

@@ -1,5 +1,5 @@
 -- What the pruned ranker answers, and what the book's runs then hold, for every input. Order: "1, 2, 3, 4, 5, then 6/7, 9, 8". Assumes nothing.
-use Rattle.std.specs.Prelude.{ℕ, ◌≤◌, ◌≡◌, cond, List, map, ◌++◌, leb, length, drop}
+use Rattle.std.specs.Prelude.{ℕ, ◌≤◌, ◌≡◌, cond, List, map, ◌++◌, leb, length, drop, Result, Ok, Err}
 use Rattle.model.specs.Limits.{max_docid, max_terms, max_k}
 use Rattle.model.specs.Outcome.{Outcome, refused, done, and_then}
 use Rattle.query.specs.Query.{asked}
@@ -7,13 +7,13 @@ use Rattle.shelf.specs.Walk.{walk}
 use Rattle.lookup.specs.Table.{Gatherable}
 use Rattle.rank.specs.Rank.{Hit}
 use Rattle.rank.specs.Match.{any_list}
-use Rattle.rank.specs.Keep.{kept_of, no_hits, keeper}
+use Rattle.rank.specs.Keep.{kept_of, keeper}
 use Rattle.prune.specs.Cut.{Listing, starts, ceiling_at, block_count}
 use Rattle.prune.specs.Prune.{never, pruned, book, blocks_opened}
 use Rattle.exhaustive.specs.Lists.{listings_of}
-use Rattle.exhaustive.specs.Exhaustive.{paper_of}
 use Rattle.exhaustive.specs.Merge.{Mergeable}
-use Rattle.exhaustive.specs.declared.all.Verdict.TheVariants.{Refused}
+use Rattle.model.specs.Refusal.{number}
+use Rattle.pruned.specs.declared.stopped.Stopped.{Stopped}
 use Rattle.intervals.specs.Blocks.{room_for}
 use Rattle.pruned.specs.declared.search.Pruned.{Pruned}
 
@@ -74,23 +74,35 @@ searched q s rows fs cs ms = answer (sought q s rows (length fs) (length cs) (le
 
 -- ---- the contracts
 
--- what a call hands back is the answer; where that is a refusal there is no hit in it
-pub record Answers (a : Answer) (fs' cs' ms' : List ℕ) (r : Pruned) : Type 0 where
-  pub outcome : paper_of r.verdict (kept_of r.kept) ≡ a.outcome
-  -- the keeper's count is the number of hits
-  pub few : r.kept.n ≤ max_k
-  pub cleared : (n at : ℕ) → r.verdict ≡ Refused n at → r.kept ≡ no_hits
-  -- past the hits its rows are zeros
-  pub whole : r.kept ≡ keeper (kept_of r.kept)
-  pub intervals : r.intervals ≡ a.intervals
-  pub opened : r.opened ≡ a.opened
-  pub blocks : r.blocks ≡ a.blocks
+-- the book as it is handed back: how many intervals it shows, and what its runs hold
+pub record BookIs (a : Answer) (n : ℕ) (fs' cs' ms' : List ℕ) : Type 0 where
+  pub intervals : n ≡ a.intervals
   pub firsts : fs' ≡ a.firsts
   pub ceilings : cs' ≡ a.ceilings
   pub marks : ms' ≡ a.marks
 
-abbrev pub refusal : (number at intervals : ℕ) → Pruned
-refusal number at intervals = record { verdict = Refused number at; intervals = intervals; opened = 0; blocks = 0; kept = no_hits }
+-- a search that is done
+pub record Ended (a : Answer) (fs' cs' ms' : List ℕ) (r : Pruned) : Type 0 where
+  pub outcome : done (kept_of r.kept) ≡ a.outcome
+  -- the keeper's count is the number of hits
+  pub few : r.kept.n ≤ max_k
+  -- past the hits its rows are zeros
+  pub whole : r.kept ≡ keeper (kept_of r.kept)
+  pub opened : r.opened ≡ a.opened
+  pub blocks : r.blocks ≡ a.blocks
+  pub book : BookIs a r.intervals fs' cs' ms'
+
+-- one that is refused: "Counts in a refusal are 0"
+pub record Refused (a : Answer) (fs' cs' ms' : List ℕ) (r : Stopped) : Type 0 where
+  pub outcome : refused (number r.refusal.fault) r.refusal.offset ≡ a.outcome
+  pub opened : a.opened ≡ 0
+  pub blocks : a.blocks ≡ 0
+  pub book : BookIs a r.intervals fs' cs' ms'
+
+-- what a call hands back is the answer
+abbrev pub Answers : Answer → (fs' cs' ms' : List ℕ) → Result Pruned Stopped → Type 0
+Answers a fs' cs' ms' (Ok r) = Ended a fs' cs' ms' r
+Answers a fs' cs' ms' (Err r) = Refused a fs' cs' ms' r
 
 -- the lists were walked and may be gathered, and k is in range
 pub record Searchable (s ats counts : List ℕ) (k : ℕ) : Type 0 where

@@ -2,3 +2,4 @@
 #![tactic(auto)]
 
 pub mod search;
+pub mod stopped;

@@ -39,11 +39,11 @@ pub fn run(
     requires { Ready docs.now scores.now heads last k kept }
     ensures { Ran docs.now scores.now heads last k kept result }
 {
-    let m = in_use(&heads);
     let mut hs = heads;
     let mut best = kept.docids;
     let mut sums = kept.scores;
     let mut n = kept.n;
+    let m = in_use(&hs);
     loop {
         let mut d = END;
         for h in &hs[..m] {

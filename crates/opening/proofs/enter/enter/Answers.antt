@@ -48,8 +48,8 @@ load-requires c =
     let l = p.1 c.if-met-eq-GAP.false in
     record { some = l.some; most = l.most; order = l.order; below = l.below; mine = p.0; docids = p.2; scored = p.3 }
 
-pub returns-in-Stands : goal.returns-in-Stands
-returns-in-Stands c = enter_stands _ _ _ _ _ _ _ _ _ _ _ _ _ c.if-met-was.false c.if-met-eq-GAP.false _ _ _ _ _ (cc c.is_strip.ensures) c.body_at.ensures c.load.ensures _ (cc)
+pub returns-in-Ok : goal.returns-in-Ok
+returns-in-Ok c = enter_stands _ _ _ _ _ _ _ _ _ _ _ _ _ c.if-met-was.false c.if-met-eq-GAP.false _ _ _ _ _ (cc c.is_strip.ensures) c.body_at.ensures c.load.ensures _ c.in-Ok.is
 
-pub returns-in-Wrong : goal.returns-in-Wrong
-returns-in-Wrong c = enter-wrong _ _ _ _ _ _ _ _ _ _ _ _ _ c.if-met-was.false c.if-met-eq-GAP.false _ _ _ _ _ (cc c.is_strip.ensures) c.body_at.ensures c.load.ensures _ c.ended-in-Wrong.ensures (cc)
+pub returns-in-Err : goal.returns-in-Err
+returns-in-Err c = enter-wrong _ _ _ _ _ _ _ _ _ _ _ _ _ c.if-met-was.false c.if-met-eq-GAP.false _ _ _ _ _ (cc c.is_strip.ensures) c.body_at.ensures c.load.ensures _ c.ended-in-Err.ensures c.in-Err.is

@@ -50,8 +50,8 @@ over_blocks-booked-requires c =
     } in
     tabled_walked _ _ _ _ _ (tabled) _ (weighted)
 
-pub returns-then-booked-eq0 : goal.returns-then-booked-eq0
-returns-then-booked-eq0 c =
+pub returns-then-intervals-eq0 : goal.returns-then-intervals-eq0
+returns-then-intervals-eq0 c =
     let weighted : length c.args.weights ≡ 8 = search rules in
     let places : length c.args.found.ats ≡ 8 = search rules in
     let counted : length c.args.found.counts ≡ 8 = search rules in
@@ -63,7 +63,7 @@ returns-then-booked-eq0 c =
       counted = counted;
     } in
     let a = c.args in
-    ends-short a.shelf.now a.found.ats a.found.counts a.k c.gather-blocks.result (tabled) a.weights (weighted) a.firsts.now a.ceilings.now a.marks.now _ _ _ _ c.over_blocks-booked.ensures c.refuse.result c.if-booked-eq0.true c.refuse.ensures
+    rw (c.from.ensures, c.at.ensures) (ends-short a.shelf.now a.found.ats a.found.counts a.k c.gather-blocks.result (tabled) a.weights (weighted) a.firsts.now a.ceilings.now a.marks.now _ _ _ _ c.over_blocks-booked.ensures c.if-intervals-eq0.true)
 
 pub returns-then-run-shelf : goal.returns-then-run-shelf
 returns-then-run-shelf c =
@@ -78,7 +78,7 @@ returns-then-run-shelf c =
       counted = counted;
     } in
     let a = c.args in
-    ends-wrong a.shelf.now a.found.ats a.found.counts a.k c.gather-blocks.result (tabled) a.weights (weighted) a.firsts.now a.ceilings.now a.marks.now _ _ _ _ c.over_blocks-booked.ensures c.if-booked-eq0.false c.refuse-then-run-shelf.result c.if-run-shelf.true c.refuse-then-run-shelf.ensures
+    rw c.at-then-run-shelf.ensures (ends-wrong a.shelf.now a.found.ats a.found.counts a.k c.gather-blocks.result (tabled) a.weights (weighted) a.firsts.now a.ceilings.now a.marks.now _ _ _ _ c.over_blocks-booked.ensures c.if-intervals-eq0.false c.if-run-shelf.true)
 
 pub returns : goal.returns
 returns c =
@@ -93,4 +93,4 @@ returns c =
       counted = counted;
     } in
     let a = c.args in
-    ends-done a.shelf.now a.found.ats a.found.counts a.k c.gather-blocks.result (tabled) a.weights (weighted) a.firsts.now a.ceilings.now a.marks.now _ _ _ _ c.over_blocks-booked.ensures c.if-booked-eq0.false (omega (arith, c.if-run-shelf.false))
+    ends-done a.shelf.now a.found.ats a.found.counts a.k c.gather-blocks.result (tabled) a.weights (weighted) a.firsts.now a.ceilings.now a.marks.now _ _ _ _ c.over_blocks-booked.ensures c.if-intervals-eq0.false (omega (arith, c.if-run-shelf.false))
