@@ -15,7 +15,7 @@ use Rattle.prune.specs.Prune.{never, book, blocks_opened}
 use Rattle.prune.proofs.Cuts.{cuts_asc}
 use Rattle.pruned.specs.Pruned.{Sought, sought, answer, searched, front, Ended, Answers}
 use Rattle.pruned.specs.declared.search.Pruned.{Pruned}
-use Rattle.pruned.specs.declared.stopped.Stopped.{Stopped}
+use Rattle.intervals.specs.declared.stopped.Stopped.{Stopped}
 use Rattle.pruned.proofs.Endings.{book-long}
 use Rattle.lines.specs.Book.{max_intervals}
 use Rattle.report.specs.Report.{shown_of, search_shown, told, Printed, Printable}

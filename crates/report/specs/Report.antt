@@ -10,7 +10,7 @@ use Rattle.prune.specs.Cut.{starts, ceiling_at, block_count}
 use Rattle.prune.specs.Prune.{never, pruned, book, blocks_opened}
 use Rattle.pruned.specs.Pruned.{Sought, sought}
 use Rattle.pruned.specs.declared.search.Pruned.{Pruned}
-use Rattle.pruned.specs.declared.stopped.Stopped.{Stopped}
+use Rattle.intervals.specs.declared.stopped.Stopped.{Stopped}
 use Rattle.lines.specs.Text.{Shown, shown, text}
 use Rattle.lines.specs.Book.{Book, max_intervals, max_output}
 use Rattle.lines.specs.Split.{query_size}

@@ -10,7 +10,7 @@ ghost use Rattle.report.specs.Report.{search_shown, reported, told, Printable, R
 use lines::said::Said;
 use model::refusal::Fault;
 use pruned::search::Pruned;
-use pruned::stopped::Stopped;
+use intervals::stopped::Stopped;
 
 // The longest input that is searched.
 const MAX_INPUT: usize = 65536;
