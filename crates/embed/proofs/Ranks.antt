@@ -20,7 +20,7 @@ use Rattle.prune.proofs.Rooms.{Within}
 use Rattle.exhaustive.proofs.Alls.{rank-within}
 use Rattle.pruned.specs.Pruned.{searched, Ended, Refused}
 use Rattle.pruned.specs.declared.search.Pruned.{Pruned}
-use Rattle.pruned.specs.declared.stopped.Stopped.{Stopped}
+use Rattle.intervals.specs.declared.stopped.Stopped.{Stopped}
 use Rattle.pruned.proofs.Searches.{searched-within}
 use Rattle.embed.specs.Report.{Reports, Fills}
 use Rattle.embed.specs.Rows.{Fit, Fits, Rows, ranking, Hits}

@@ -1,9 +1,10 @@
--- "Each public function's contract determines its return and the final content of every lent run": those contracts of the search that are no equation allow
--- one outcome only, for what is returned and for each run that was lent. Assumes nothing.
+-- "Each public function's contract determines its return and the final content of every lent run": those contracts of reading, writing and searching that
+-- are no equation allow one outcome only, for what is returned and for each run that was lent. Assumes nothing.
 use Prim.Native.Nat.{ℕ, ◌+◌, ◌-◌, ◌≤◌, ◌<◌}
 use mathlib.Core.Path.{◌≡◌, refl, sym, ap, ◌∙◌}
 use mathlib.Core.Option.{none, some}
-use mathlib.Core.List.{List, ◌∷◌}
+use Rattle.std.specs.Prelude.{Option, Some, None, Result, Ok, Err}
+use mathlib.Core.List.{List, [], ◌∷◌}
 use native.Mathlib.Omega.{arith}
 use lib.Dec.{ltb}
 use lib.ListN.{length, get_or, take, drop, length-take, length-drop}
@@ -11,16 +12,31 @@ use lib.Seq.{ext_get_or}
 use borrow.Author.Tests.{ltb-true, ltb-false}
 use Rattle.model.specs.Limits.{max_k, max_terms, max_docid}
 use Rattle.model.specs.Outcome.{Outcome, refused, done}
-use Rattle.model.specs.Post.{post, postings}
+use Rattle.model.specs.Post.{Post, post, postings}
+use Rattle.model.specs.Refusal.{number, outcome_of}
+use Rattle.model.specs.declared.refusal.Fault.{Fault}
+use Rattle.model.specs.declared.refusal.Fault.TheVariants as fault
+use Rattle.model.specs.declared.refusal.Refusal.{Refusal}
 use Rattle.model.proofs.Lists.{split}
 use Rattle.block.specs.declared.summary.Summary.{Summary}
 use Rattle.shelf.specs.Walk.{Block}
 use Rattle.shelf.specs.Blocks.{blocks_left, Finds, Steps}
 use Rattle.shelf.specs.declared.blocks.Reading.{Reading}
-use Rattle.shelf.specs.declared.blocks.BlockStep.{BlockStep}
-use Rattle.shelf.specs.declared.blocks.BlockStep.TheVariants.{Block as Found, Last}
+use Rattle.shelf.specs.declared.blocks.BlockAt.{BlockAt}
+use Rattle.shelf.specs.declared.walk.Place.{Place}
+use Rattle.shelf.specs.declared.walk.Walk.{Walk}
+use Rattle.shelf.specs.Step as step
+use Rattle.shelf.specs.Step.{WalkStep}
+use Rattle.shelf.specs.Cursor.{Walks}
+use Rattle.lookup.specs.Gather.{Finds as FindsLists}
+use Rattle.lookup.specs.declared.gather.Found.{Found}
+use Rattle.list.specs.Answer.{Gives}
+use Rattle.list.specs.Read.{Reads}
+use Rattle.query.specs.Query.{Question}
+use Rattle.query.specs.Answers.{Tells}
+use Rattle.query.specs.declared.read.Query.{Query}
 use Rattle.rank.specs.Rank.{Hit, keep}
-use Rattle.rank.specs.Keep.{kept_of, kept_on, no_hits, keeper, KeepsIn}
+use Rattle.rank.specs.Keep.{kept_of, kept_on, keeper, KeepsIn}
 use Rattle.rank.specs.declared.keep.Kept.{Kept}
 use Rattle.rank.proofs.Keepings.{kept_on_lem}
 use Rattle.scan.specs.Run.{Ran, Searched}
@@ -36,16 +52,62 @@ use Rattle.intervals.specs.declared.run.Run.{Run}
 use Rattle.intervals.specs.declared.blocks.Booked.{Booked}
 use Rattle.prune.specs.Cut.{starts}
 use Rattle.opening.specs.Table.{block_in, lists_in}
-use Rattle.exhaustive.specs.Exhaustive.{paper_of, Answers as Ranks}
-use Rattle.exhaustive.specs.declared.all.Verdict.{Verdict}
-use Rattle.exhaustive.specs.declared.all.Verdict.TheVariants.{Done, Refused}
-use Rattle.exhaustive.specs.declared.all.Ranked.{Ranked}
-use Rattle.pruned.specs.Pruned.{Answer, Answers}
+use Rattle.exhaustive.specs.Exhaustive.{Answers as Ranks}
+use Rattle.pruned.specs.Pruned.{Answer, BookIs, Answers}
 use Rattle.pruned.specs.declared.search.Pruned.{Pruned}
+use Rattle.intervals.specs.declared.stopped.Stopped.{Stopped}
 
 -- what cannot be
+never : {C : Type 0} → ◌≡◌ {A = ℕ} 0 1 → C
+never e = absurd (omega (arith, e))
+
 some-none : {C : Type 0} (a : ℕ) → some a ≡ none → C
-some-none a e = let z : ◌≡◌ {A = ℕ} 0 1 = cc in absurd (omega arith)
+some-none a e = never (cc)
+
+apart : {C A : Type 0} {n at : ℕ} {x : A} → refused n at ≡ done x → C
+apart e = never (cc)
+
+-- ---- a refusal, which a contract gives by its number and offset
+
+named : ℕ → Fault
+named n =
+    get_or (
+    fault.QueryField ∷ fault.HitCount ∷ fault.TermCount ∷ fault.Weight ∷ fault.RepeatedTerm ∷ fault.ShelfField ∷ fault.Summary ∷ fault.Body ∷ fault.Room ∷ fault.Posting
+    ∷ fault.Size ∷ fault.Absent ∷ fault.Input ∷ []
+    ) (n - 1) fault.QueryField
+
+named_back : (f : Fault) → named (number f) ≡ f
+unfolding named
+named_back fault.QueryField = refl
+named_back fault.HitCount = refl
+named_back fault.TermCount = refl
+named_back fault.Weight = refl
+named_back fault.RepeatedTerm = refl
+named_back fault.ShelfField = refl
+named_back fault.Summary = refl
+named_back fault.Body = refl
+named_back fault.Room = refl
+named_back fault.Posting = refl
+named_back fault.Size = refl
+named_back fault.Absent = refl
+named_back fault.Input = refl
+
+-- no two faults have one number
+fault-one : (f g : Fault) → number f ≡ number g → f ≡ g
+fault-one f g e = sym (named_back f) ∙ ap named e ∙ named_back g
+
+refusal-one : (r q : Refusal) → number r.fault ≡ number q.fault → r.offset ≡ q.offset → r ≡ q
+refusal-one r q n o = let f = fault-one r.fault q.fault n in λ i. record { fault = f i; offset = o i }
+
+refused-one : {A : Type 0} (r q : Refusal) → ◌≡◌ {A = Outcome A} (refused (number r.fault) r.offset) (refused (number q.fault) q.offset) → r ≡ q
+refused-one r q e = refusal-one r q (cc) (cc)
+
+-- an answer of which the paper's outcome is known: so `shelf::check::check`, `lookup::find::find_list`, `query::fields::count_fields` and others tell theirs
+pub outcome-one : {A : Type 0} (r q : Result A Refusal) → outcome_of r ≡ outcome_of q → r ≡ q
+outcome-one (Ok x) (Ok y) e = let z : x ≡ y = cc in ap Ok z
+outcome-one (Ok x) (Err q) e = apart (sym e)
+outcome-one (Err r) (Ok y) e = apart e
+outcome-one {A = A} (Err r) (Err q) e = ap Err (refused-one {A = A} r q e)
 
 -- ---- `shelf::blocks::Reading::next`
 
@@ -54,18 +116,38 @@ found-end s r b v e next f =
     let n : length b.body ≡ e - v = ap length f.body ∙ omega (arith, length-take (e - v) (drop v s), length-drop v s, f.order, f.inside) in
     omega (arith, f.tag, f.order)
 
-pub next_one : (s : List ℕ) (x : Reading) (r q : BlockStep) → Steps s x r → Steps s x q → r ≡ q
-next_one s x (Found m v e next) (Found m' v' e' next') (b, n, f) (b', n', f') =
+pub next_one : (s : List ℕ) (x : Reading) (r q : Option BlockAt) (next next' : Reading) → Steps s x r next → Steps s x q next' → (r ≡ q) × (next ≡ next')
+next_one s x (Some m) (Some m') next next' (b, n, f) (b', n', f') =
     let l : b ∷ blocks_left s next ≡ b' ∷ blocks_left s next' = sym f.left ∙ f'.left in
     let same : b ≡ b' = cc in
-    let sums : m ≡ m' = sym n ∙ ap {B = Summary} (λ y. y.sum) same ∙ n' in
-    let froms : v ≡ v' = sym f.tag ∙ ap {B = ℕ} (λ y. y.body_at + 3) same ∙ f'.tag in
-    let ends : e ≡ e' = found-end s x b v e next f ∙ ap {B = ℕ} (λ y. y.body_at + 3 + length y.body) same ∙ sym (found-end s x b' v' e' next' f') in
+    let sums : m.summary ≡ m'.summary = sym n ∙ ap {B = Summary} (λ y. y.sum) same ∙ n' in
+    let froms : m.start ≡ m'.start = sym f.tag ∙ ap {B = ℕ} (λ y. y.body_at + 3) same ∙ f'.tag in
+    let ends : m.end ≡ m'.end = found-end s x b m.start m.end next f ∙ ap {B = ℕ} (λ y. y.body_at + 3 + length y.body) same ∙ sym (found-end s x b' m'.start m'.end next' f') in
     let ons : next ≡ next' = f.onward ∙ rw ends (sym f'.onward) in
-    cc
-next_one s x (Found m v e next) Last (b, n, f) z = absurd (omega (arith, f.fewer, z.1))
-next_one s x Last (Found m v e next) z (b, n, f) = absurd (omega (arith, f.fewer, z.1))
-next_one s x Last Last y z = refl
+    (λ i. Some (record { summary = sums i; start = froms i; end = ends i }), ons)
+next_one s x (Some m) None next next' (b, n, f) z = absurd (omega (arith, f.fewer, z.1))
+next_one s x None (Some m) next next' z (b, n, f) = absurd (omega (arith, f.fewer, z.1))
+next_one s x None None next next' y z = (refl, y.2 ∙ sym z.2)
+
+-- ---- `shelf::walk::Walk::next`
+
+-- what is answered; and the walk past it where a list is found
+pub walk-one : (found : WalkStep) (r q : Result (Option Place) Refusal) (w v : Walk) → Walks found r w → Walks found q v → (r ≡ q) × ((p : Place) → r ≡ Ok (Some p) → w ≡ v)
+walk-one found (Ok (Some x)) (Ok (Some y)) w v a b =
+    let e : step.List x w ≡ step.List y v = sym a ∙ b in
+    let places : x ≡ y = cc in
+    let walks : w ≡ v = cc in
+    (ap (λ (p : Place). Ok (Some p)) places, λ p h. walks)
+walk-one found (Ok (Some x)) (Ok None) w v a b = never (cc)
+walk-one found (Ok (Some x)) (Err q) w v a b = never (cc)
+walk-one found (Ok None) (Ok (Some y)) w v a b = never (cc)
+walk-one found (Ok None) (Ok None) w v a b = (refl, λ p h. never (cc))
+walk-one found (Ok None) (Err q) w v a b = never (cc)
+walk-one found (Err r) (Ok (Some y)) w v a b = never (cc)
+walk-one found (Err r) (Ok None) w v a b = never (cc)
+walk-one found (Err r) (Err q) w v a b =
+    let e : step.Fault (number r.fault) r.offset ≡ step.Fault (number q.fault) q.offset = sym a ∙ b in
+    (ap Err (refusal-one r q (cc) (cc)), λ p h. never (cc))
 
 -- ---- `rank::keep::offer_in`
 
@@ -157,9 +239,9 @@ found-one n r q l m e =
     split (ltb r.wrong n)
     (λ x. split (ltb q.wrong n)
     (λ y. let z : refused 8 r.wrong ≡ refused 8 q.wrong = rw (x, y) at e in (cc, λ h. absurd (omega (arith, ltb-true r.wrong n x))))
-    (λ y. let z : refused 8 r.wrong ≡ done (kept_of q.kept) = rw (x, y) at e in let c : ◌≡◌ {A = ℕ} 0 1 = cc in absurd (omega arith)))
+    (λ y. let z : refused 8 r.wrong ≡ done (kept_of q.kept) = rw (x, y) at e in apart z))
     (λ x. split (ltb q.wrong n)
-    (λ y. let z : done (kept_of r.kept) ≡ refused 8 q.wrong = rw (x, y) at e in let c : ◌≡◌ {A = ℕ} 0 1 = cc in absurd (omega arith))
+    (λ y. apart (sym (rw (x, y) at e)))
     (λ y. let z : done (kept_of r.kept) ≡ done (kept_of q.kept) = rw (x, y) at e in (omega (arith, ltb-false r.wrong n x, ltb-false q.wrong n y), λ h. cc)))
 
 module _ (s ends los his tops counts bodies weights : List ℕ) (k : ℕ) (firsts ms ms' ms'' : List ℕ) (r q : Run)
@@ -194,34 +276,67 @@ module _ (s ends los his tops counts bodies weights : List ℕ) (k : ℕ) (fs cs
       let g = b.refused x in
       (λ i. record { intervals = (f.intervals ∙ sym g.intervals) i; run = (f.run ∙ sym g.run) i }, f.firsts ∙ sym g.firsts, f.ceilings ∙ sym g.ceilings, f.marks ∙ sym g.marks))
 
+-- ---- `query::read::read_query`
+
+pub asked-one : (o : Outcome Question) (r q : Result Query Refusal) → Tells o r → Tells o q → r ≡ q
+asked-one o (Ok r) (Ok q) (x, e, a) (y, f, b) =
+    let z : done x ≡ done y = sym e ∙ f in
+    let same : x ≡ y = cc in
+    let n : r.n ≡ q.n = a.terms.count ∙ rw same (sym b.terms.count) in
+    let k : r.k ≡ q.k = a.k ∙ rw same (sym b.k) in
+    let t : r.terms ≡ q.terms = a.terms.whole ∙ rw (same, n) (sym b.terms.whole) in
+    let w : r.weights ≡ q.weights = a.weights.whole ∙ rw (same, n) (sym b.weights.whole) in
+    λ i. Ok (record { k = k i; n = n i; terms = t i; weights = w i })
+asked-one o (Ok r) (Err q) (x, e, a) f = apart (sym f ∙ e)
+asked-one o (Err r) (Ok q) e (y, f, b) = apart (sym e ∙ f)
+asked-one o (Err r) (Err q) e f = ap Err (refused-one r q (sym e ∙ f))
+
+-- ---- `lookup::gather::find_terms`
+
+pub lists-one : (s terms : List ℕ) (n : ℕ) (r q : Result Found Refusal) → FindsLists s terms n r → FindsLists s terms n q → r ≡ q
+lists-one s terms n (Ok r) (Ok q) (ls, e, a) (ms, f, b) =
+    let z : done ls ≡ done ms = sym e ∙ f in
+    let same : ls ≡ ms = cc in
+    let at : r.ats ≡ q.ats = a.ats ∙ rw same (sym b.ats) in
+    let count : r.counts ≡ q.counts = a.counts ∙ rw same (sym b.counts) in
+    λ i. Ok (record { ats = at i; counts = count i })
+lists-one s terms n (Ok r) (Err q) (ls, e, a) f = apart (sym f ∙ e)
+lists-one s terms n (Err r) (Ok q) e (ms, f, b) = apart (sym e ∙ f)
+lists-one s terms n (Err r) (Err q) e f = ap Err (refused-one r q (sym e ∙ f))
+
+-- ---- what fills lent runs: the writer, the edits and the converter; the reader
+
+pub gives_one : (o : Outcome (List ℕ)) (old new new' : List ℕ) (r q : Result ℕ Refusal) → Gives o old new r → Gives o old new' q → (r ≡ q) × (new ≡ new')
+gives_one o old new new' r q a b = (outcome-one r q (a.answers ∙ sym b.answers), a.holds ∙ sym b.holds)
+
+pub reads_one : (o : Outcome (List Post)) (ds ss ds' ss' ds'' ss'' : List ℕ) (r q : Result ℕ Refusal) → Reads o ds ss ds' ss' r → Reads o ds ss ds'' ss'' q → (r ≡ q) × (ds' ≡ ds'') × (ss' ≡ ss'')
+reads_one o ds ss ds' ss' ds'' ss'' r q a b = (outcome-one r q (a.docids.answers ∙ sym b.docids.answers), a.docids.holds ∙ sym b.docids.holds, a.scored.holds ∙ sym b.scored.holds)
+
 -- ---- the two rankers
 
--- a verdict with its keeper
-verdict-one : (v u : Verdict) (t w : Kept) → paper_of v (kept_of t) ≡ paper_of u (kept_of w) → t ≡ keeper (kept_of t) → w ≡ keeper (kept_of w)
-    → ((n at : ℕ) → v ≡ Refused n at → t ≡ no_hits) → ((n at : ℕ) → u ≡ Refused n at → w ≡ no_hits) → (v ≡ u) × (t ≡ w)
-verdict-one Done Done t w e f g c d = let h : kept_of t ≡ kept_of w = cc in (refl, f ∙ ap keeper h ∙ sym g)
-verdict-one Done (Refused n at) t w e f g c d = let z : ◌≡◌ {A = ℕ} 0 1 = cc in absurd (omega arith)
-verdict-one (Refused n at) Done t w e f g c d = let z : ◌≡◌ {A = ℕ} 0 1 = cc in absurd (omega arith)
-verdict-one (Refused n at) (Refused m o) t w e f g c d = let h : n ≡ m = cc in let p : at ≡ o = cc in (rw (h, p), c n at refl ∙ sym (d m o refl))
+-- a keeper of the hits
+keeper-one : (t w : Kept) → done (kept_of t) ≡ done (kept_of w) → t ≡ keeper (kept_of t) → w ≡ keeper (kept_of w) → t ≡ w
+keeper-one t w e f g = let h : kept_of t ≡ kept_of w = cc in f ∙ ap keeper h ∙ sym g
 
 -- `exhaustive::all::rank_all`
-pub rank-one : (o : Outcome (List Hit)) (r q : Ranked) → Ranks o r → Ranks o q → r ≡ q
-rank-one o r q a b =
-    let e = verdict-one r.verdict q.verdict r.kept q.kept (a.answer ∙ sym b.answer) a.whole b.whole a.cleared b.cleared in
-    λ i. record { verdict = e.0 i; kept = e.1 i }
+pub rank-one : (o : Outcome (List Hit)) (r q : Result Kept Refusal) → Ranks o r → Ranks o q → r ≡ q
+rank-one o (Ok r) (Ok q) a b = ap Ok (keeper-one r q (a.answer ∙ sym b.answer) a.whole b.whole)
+rank-one o (Ok r) (Err q) a e = apart (e ∙ sym a.answer)
+rank-one o (Err r) (Ok q) e b = apart (e ∙ sym b.answer)
+rank-one o (Err r) (Err q) e f = ap Err (refused-one r q (e ∙ sym f))
 
 -- `pruned::search::search`
-pub search-one : (o : Answer) (fs cs ms fs' cs' ms' : List ℕ) (r q : Pruned) → Answers o fs cs ms r → Answers o fs' cs' ms' q → (r ≡ q) × (fs ≡ fs') × (cs ≡ cs') × (ms ≡ ms')
-search-one o fs cs ms fs' cs' ms' r q a b =
-    let e = verdict-one r.verdict q.verdict r.kept q.kept (a.outcome ∙ sym b.outcome) a.whole b.whole a.cleared b.cleared in (
-      λ i. record {
-        verdict = e.0 i;
-        intervals = (a.intervals ∙ sym b.intervals) i;
-        opened = (a.opened ∙ sym b.opened) i;
-        blocks = (a.blocks ∙ sym b.blocks) i;
-        kept = e.1 i;
-      },
-      a.firsts ∙ sym b.firsts,
-      a.ceilings ∙ sym b.ceilings,
-      a.marks ∙ sym b.marks,
-    )
+book-same : (o : Answer) (n m : ℕ) (fs cs ms fs' cs' ms' : List ℕ) → BookIs o n fs cs ms → BookIs o m fs' cs' ms' → (n ≡ m) × (fs ≡ fs') × (cs ≡ cs') × (ms ≡ ms')
+book-same o n m fs cs ms fs' cs' ms' a b = (a.intervals ∙ sym b.intervals, a.firsts ∙ sym b.firsts, a.ceilings ∙ sym b.ceilings, a.marks ∙ sym b.marks)
+
+pub search-one : (o : Answer) (fs cs ms fs' cs' ms' : List ℕ) (r q : Result Pruned Stopped) → Answers o fs cs ms r → Answers o fs' cs' ms' q → (r ≡ q) × (fs ≡ fs') × (cs ≡ cs') × (ms ≡ ms')
+search-one o fs cs ms fs' cs' ms' (Ok r) (Ok q) a b =
+    let book = book-same o r.intervals q.intervals fs cs ms fs' cs' ms' a.book b.book in
+    let kept = keeper-one r.kept q.kept (a.outcome ∙ sym b.outcome) a.whole b.whole in
+    (λ i. Ok (record { intervals = book.0 i; opened = (a.opened ∙ sym b.opened) i; blocks = (a.blocks ∙ sym b.blocks) i; kept = kept i }), book.1, book.2, book.3)
+search-one o fs cs ms fs' cs' ms' (Ok r) (Err q) a b = apart (b.outcome ∙ sym a.outcome)
+search-one o fs cs ms fs' cs' ms' (Err r) (Ok q) a b = apart (a.outcome ∙ sym b.outcome)
+search-one o fs cs ms fs' cs' ms' (Err r) (Err q) a b =
+    let book = book-same o r.intervals q.intervals fs cs ms fs' cs' ms' a.book b.book in
+    let refusal = refused-one r.refusal q.refusal (a.outcome ∙ sym b.outcome) in
+    (λ i. Err (record { refusal = refusal i; intervals = book.0 i }), book.1, book.2, book.3)

@@ -2,14 +2,14 @@
 use Prim.Native.Nat.{ℕ, zero, suc, ◌+◌, ◌-◌, ◌*◌, ◌^◌, ◌≤◌, ◌<◌, max}
 use native.Mathlib.Omega.{arith}
 use mathlib.Core.Path.{◌≡◌, refl, sym, ap, ◌∙◌}
-use mathlib.Core.Bool.{Bool, true, false, ◌&&◌}
+use mathlib.Core.Bool.{true, false, ◌&&◌}
 use mathlib.Core.Logic.{◌↔◌}
 use mathlib.Core.List.{List, [], ◌∷◌, ◌++◌, map, append-nil}
 use borrow.Author.Tests.{leb-true, le-leb, lt-leb, lt-ltb}
-use lib.Dec.{leb, ltb}
+use lib.Dec.{leb}
 use lib.ListN.{length, drop, replicate, length-append, length-replicate}
 use lib.Seq.{drop-append_seam}
-use Rattle.model.specs.Outcome.{Outcome, refused, done, and_then}
+use Rattle.model.specs.Outcome.{refused, done, and_then}
 use Rattle.model.specs.Post.{Post, post, postings, Rising, Scored, last_doc}
 use Rattle.model.specs.Runs.{All}
 use Rattle.model.proofs.Lists.{and-true}
@@ -21,7 +21,7 @@ use Rattle.block.specs.Summary.{is_sum, sum_of, right_sum, sum_bytes}
 use Rattle.block.specs.Body.{is_strip, edge, gapped, posting, posts, body_posts, right_body, later_bytes, front_bytes, back_bytes, body_bytes}
 use Rattle.shelf.specs.Walk.{head_term, head_count, right_head, one_sum, sums, one_body, bodies_of, bodies, blocks_of, list, onto, lists, walk}
 use Rattle.shelf.specs.Check.{judged, checked}
-use Rattle.list.specs.Write.{Word, Words, Writable, Paired, packed, sums_bytes, bodies_bytes, blocks_bytes, list_bytes, fault_at, writing, write_list}
+use Rattle.list.specs.Write.{Word, Words, Writable, packed, sums_bytes, bodies_bytes, blocks_bytes, list_bytes, fault_at, writing, write_list}
 use Rattle.list.proofs.Writes.{written-sound}
 use Rattle.list.proofs.Packing.{list-size, size_small}
 use Rattle.list.proofs.Pieces.{ReadsAt, packed_stands}

@@ -5,6 +5,7 @@ use mathlib.Core.Bool.{Bool, true, false, cond, ◌&&◌}
 use mathlib.Core.List.{List, [], ◌∷◌}
 use lib.Dec.{leb, ltb, eqb}
 use lib.ListN.{length, drop}
+use Rattle.std.specs.Prelude.{Result, Ok, Err}
 use Rattle.model.specs.Limits.{max_k, max_terms, max_shelf}
 use Rattle.model.specs.Outcome.{Outcome, refused, done, and_then}
 use Rattle.model.specs.Runs.{has}
@@ -13,8 +14,6 @@ use Rattle.block.specs.Body.{is_strip, tag_of}
 use Rattle.wire.specs.Field.{whole}
 use Rattle.shelf.specs.Walk.{head_count, right_head, one_sum, sums, one_body, bodies_of, bodies, list, lists, walk}
 use Rattle.query.specs.Query.{Asked, Question, field_count, unless, all_right, weighted, unrepeated, judge, asked}
-use Rattle.query.specs.declared.fields.FieldsRead.{FieldsRead}
-use Rattle.query.specs.declared.fields.FieldsRead.TheVariants.{Terms, Wrong}
 use Rattle.promises.specs.Refusals.{Numbered}
 
 module _ (P : ℕ → Type 0) where
@@ -39,9 +38,9 @@ unless-numbered : (t : Bool) (n at : ℕ) → OneToFive n → Numbered OneToFive
 unless-numbered true n at p = tt
 unless-numbered false n at p = p
 
-fields_numbered : (r : FieldsRead) → Numbered OneToFive (all_right r)
-fields_numbered (Terms n) = tt
-fields_numbered (Wrong at) = (omega arith, omega arith)
+fields_numbered : (r : Result ℕ ℕ) → Numbered OneToFive (all_right r)
+fields_numbered (Ok n) = tt
+fields_numbered (Err at) = (omega arith, omega arith)
 
 weights-numbered : (i : ℕ) (xs : List Asked) → Numbered OneToFive (weighted i xs)
 weights-numbered i [] = tt

@@ -9,6 +9,8 @@ use mathlib.Core.List.{List, [], ◌∷◌, ◌++◌}
 use borrow.Author.Tests.{ltb-true, ltb-false}
 use lib.Dec.{leb, ltb, eqb}
 use lib.ListN.{length, drop}
+use Rattle.std.specs.Prelude.{Some, None, Result, Ok, Err}
+use Rattle.std.specs.Prelude as prelude
 use Rattle.model.specs.Limits.{max_docid, max_k, max_terms, max_postings}
 use Rattle.model.specs.Outcome.{Outcome, refused, done, and_then}
 use Rattle.model.specs.Post.{Post, postings}
@@ -16,20 +18,17 @@ use Rattle.model.specs.Runs.{All}
 use Rattle.model.proofs.Lists.{split, both_ways}
 use Rattle.shelf.specs.Walk.{Block, Listing, posts_of, walk}
 use Rattle.shelf.specs.Check.{bad_body, bad_lists, verdict, checked, judged}
-use Rattle.lookup.specs.Find.{find_of, found, shown_of, paper_shown}
-use Rattle.lookup.specs.Show.{block_of, summary_shown, body_shown, paper_summary, paper_body, span_of, summary_of_block, part_of_block}
+use Rattle.shelf.specs.Answers.{placed}
+use Rattle.lookup.specs.Find.{find_of, found}
+use Rattle.lookup.specs.Show.{block_of, summary_shown, body_shown, span_of, summary_of_block, part_of_block}
 use Rattle.lookup.proofs.Shows.{summary-refused, body_refused}
 use Rattle.lookup.proofs.Showings.{shown-summary, shown-body}
 use Rattle.lookup.specs.Gather.{term_list, term_blocks}
-use Rattle.std.specs.Prelude.{Option}
-use Rattle.std.specs.Prelude.{Some, None}
 use Rattle.list.specs.Write.{fault_at, list_bytes, write_list}
 use Rattle.list.specs.Read.{held_by, in_room, read_blocks, read_list}
 use Rattle.change.specs.Edits.{Edit}
 use Rattle.change.specs.Bytes.{Piece, pieces, joined, changed, in_range, there, within, settled, edited}
 use Rattle.query.specs.Query.{Question, question, terms_in, unless, field_count, all_right, weighted, unrepeated, judge, asked}
-use Rattle.query.specs.declared.fields.FieldsRead.{FieldsRead}
-use Rattle.query.specs.declared.fields.FieldsRead.TheVariants.{Terms, Wrong}
 use Rattle.query.proofs.Accepted.{accepted}
 use Rattle.rank.specs.Rank.{Hit}
 use Rattle.rank.specs.Match.{any_list}
@@ -116,15 +115,15 @@ pub query_refuses : (q : List ℕ) → judged (asked q) ≡ first_fault (query_f
 unfolding asked judge
 query_refuses q = go (field_count q)
   where
-    go : (r : FieldsRead) → judged (and_then (all_right r) (λ n. and_then (judge (length q) (question (k_in q) n q)) (λ ok. done (question (k_in q) n q)))) ≡ first_fault (fields_faults q r)
-    go (Wrong at) = refl
-    go (Terms n) =
+    go : (r : Result ℕ ℕ) → judged (and_then (all_right r) (λ n. and_then (judge (length q) (question (k_in q) n q)) (λ ok. done (question (k_in q) n q)))) ≡ first_fault (fields_faults q r)
+    go (Err at) = refl
+    go (Ok n) =
         judged-done (judge (length q) (question (k_in q) n q)) (question (k_in q) n q)
         ∙ judge-rows (ltb 0 (k_in q) && leb (k_in q) max_k) (ltb 0 (length (terms_in n (drop 4 q)))) (leb (length (terms_in n (drop 4 q))) max_terms) 0 (length q) 68 (weighted 0 (terms_in n (drop 4 q))) (unrepeated [] 0 (terms_in n (drop 4 q)))
 
 -- ---- a shelf
 
-body-row : (ls : List Listing) (r : Option ℕ) → judged (verdict ls r) ≡ and_then (body_fault r) (λ ok. done tt)
+body-row : (ls : List Listing) (r : prelude.Option ℕ) → judged (verdict ls r) ≡ and_then (body_fault r) (λ ok. done tt)
 body-row ls None = refl
 body-row ls (Some at) = refl
 
@@ -155,9 +154,9 @@ judged-of : {A B : Type 0} (o : Outcome A) (f : A → B) → judged (and_then o 
 judged-of (refused n at) f = refl
 judged-of (done x) f = refl
 
-shown-place : (o : Outcome Listing) → paper_shown (shown_of o) ≡ and_then o (λ l. done l.place)
-shown-place (refused n at) = refl
-shown-place (done l) = refl
+placed-is : (o : Outcome Listing) → placed o ≡ and_then o (λ l. done l.place)
+placed-is (refused n at) = refl
+placed-is (done l) = refl
 
 found_refuses : (t : ℕ) (s : List ℕ) → judged (found t s) ≡ first_fault (show_faults t s)
 unfolding found
@@ -171,8 +170,8 @@ found_refuses t s = go (walk s)
     go (refused n at) = refl
     go (done ls) = find_only (find_of t ls) ∙ find_row t ls (λ l. done l)
 
-pub show_refuses : (t : ℕ) (s : List ℕ) → judged (paper_shown (shown_of (found t s))) ≡ first_fault (show_faults t s)
-show_refuses t s = ap judged (shown-place (found t s)) ∙ judged-of (found t s) (λ (l : Listing). l.place) ∙ found_refuses t s
+pub show_refuses : (t : ℕ) (s : List ℕ) → judged (placed (found t s)) ≡ first_fault (show_faults t s)
+show_refuses t s = ap judged (placed-is (found t s)) ∙ judged-of (found t s) (λ (l : Listing). l.place) ∙ found_refuses t s
 
 block-there : (bs : List Block) (j : ℕ) → j < length bs → (b : Block) × (block_of bs j ≡ done b)
 block-there [] j l = absurd (omega arith)
@@ -197,29 +196,29 @@ module _ (t : ℕ) (s : List ℕ) (j : ℕ) where
       go (refused n at) = refl
       go (done ls) = find_row t ls (λ l. block_of l.blocks j) ∙ after (row (not (listed t ls)) 12 0) (block_row (term_blocks t ls) j)
 
-  of_the_block : (summary_shown s (shown_of (found t s)) j ≡ summary_of_block (block_shown t s j)) × (body_shown s (shown_of (found t s)) j ≡ part_of_block (block_shown t s j))
+  of_the_block : (summary_shown s (placed (found t s)) j ≡ summary_of_block (block_shown t s j)) × (body_shown s (placed (found t s)) j ≡ part_of_block (block_shown t s j))
   of_the_block = go (found t s) refl
     where
       go : (o : Outcome Listing) → found t s ≡ o
-          → (summary_shown s (shown_of o) j ≡ summary_of_block (and_then o (λ l. block_of l.blocks j))) × (body_shown s (shown_of o) j ≡ part_of_block (and_then o (λ l. block_of l.blocks j)))
+          → (summary_shown s (placed o) j ≡ summary_of_block (and_then o (λ l. block_of l.blocks j))) × (body_shown s (placed o) j ≡ part_of_block (and_then o (λ l. block_of l.blocks j)))
       go (refused n at) e = (summary-refused s n at j, body_refused s n at j)
       go (done l) e = (rw e at (shown-summary t s l e j), rw e at (shown-body t s l e j))
 
   -- what is shown of a block is of the block that the list has
-  pub shows_the_block : (paper_shown (shown_of (found t s)) ≡ and_then (found t s) (λ l. done l.place))
-      × (paper_summary (summary_shown s (shown_of (found t s)) j) ≡ and_then (block_shown t s j) (λ b. done b.sum))
-      × (paper_body (body_shown s (shown_of (found t s)) j) ≡ and_then (block_shown t s j) (λ b. done (span_of b)))
-  shows_the_block = (shown-place (found t s), ap paper_summary of_the_block.0 ∙ numbers (block_shown t s j), ap paper_body of_the_block.1 ∙ part (block_shown t s j))
+  pub shows_the_block : (placed (found t s) ≡ and_then (found t s) (λ l. done l.place))
+      × (summary_shown s (placed (found t s)) j ≡ and_then (block_shown t s j) (λ b. done b.sum))
+      × (body_shown s (placed (found t s)) j ≡ and_then (block_shown t s j) (λ b. done (span_of b)))
+  shows_the_block = (placed-is (found t s), of_the_block.0 ∙ numbers (block_shown t s j), of_the_block.1 ∙ part (block_shown t s j))
     where
-      numbers : (o : Outcome Block) → paper_summary (summary_of_block o) ≡ and_then o (λ b. done b.sum)
+      numbers : (o : Outcome Block) → summary_of_block o ≡ and_then o (λ b. done b.sum)
       numbers (refused n at) = refl
       numbers (done b) = refl
 
-      part : (o : Outcome Block) → paper_body (part_of_block o) ≡ and_then o (λ b. done (span_of b))
+      part : (o : Outcome Block) → part_of_block o ≡ and_then o (λ b. done (span_of b))
       part (refused n at) = refl
       part (done b) = refl
 
-  pub block_refuses : (judged (paper_summary (summary_shown s (shown_of (found t s)) j)) ≡ first_fault (block_faults t s j)) × (judged (paper_body (body_shown s (shown_of (found t s)) j)) ≡ first_fault (block_faults t s j))
+  pub block_refuses : (judged (summary_shown s (placed (found t s)) j) ≡ first_fault (block_faults t s j)) × (judged (body_shown s (placed (found t s)) j) ≡ first_fault (block_faults t s j))
   block_refuses = (
     ap judged shows_the_block.1 ∙ judged-of (block_shown t s j) (λ (b : Block). b.sum) ∙ block-row-first,
     ap judged shows_the_block.2 ∙ judged-of (block_shown t s j) span_of ∙ block-row-first,
@@ -231,7 +230,7 @@ room_row d w ps = unless-row (leb (length ps) (min d w)) 9 0 (done ps)
 blocks-rows : (bs : List Block) (d w : ℕ) → judged (read_blocks bs d w) ≡ first_fault (body_fault (bad_body bs) ∷ row (not (leb (length (posts_of bs)) (min d w))) 9 0 ∷ [])
 blocks-rows bs d w = go (bad_body bs)
   where
-    go : (r : Option ℕ) → judged (and_then (held_by bs r) (in_room d w)) ≡ first_fault (body_fault r ∷ row (not (leb (length (posts_of bs)) (min d w))) 9 0 ∷ [])
+    go : (r : prelude.Option ℕ) → judged (and_then (held_by bs r) (in_room d w)) ≡ first_fault (body_fault r ∷ row (not (leb (length (posts_of bs)) (min d w))) 9 0 ∷ [])
     go (Some at) = refl
     go None = room_row d w (posts_of bs)
 
@@ -269,7 +268,7 @@ pub edit_refuses : (e : Edit) (s : List ℕ) (room : ℕ) → judged (edited e s
 unfolding edited checked
 edit_refuses e s room = unless-row (in_range e) 10 0 _ ∙ after (row (not (in_range e)) 10 0) (go (walk s))
   where
-    by-body : (ls : List Listing) (r : Option ℕ) → judged (and_then (verdict ls r) (λ ms. settled e (pieces s ms) room)) ≡ and_then (body_fault r) (λ ok. judged (settled e (pieces s ls) room))
+    by-body : (ls : List Listing) (r : prelude.Option ℕ) → judged (and_then (verdict ls r) (λ ms. settled e (pieces s ms) room)) ≡ and_then (body_fault r) (λ ok. judged (settled e (pieces s ls) room))
     by-body ls (Some at) = refl
     by-body ls None = refl
 
@@ -292,7 +291,7 @@ pub convert_refuses : (t : ℕ) (s : List ℕ) (room : ℕ) → judged (converte
 unfolding converted checked
 convert_refuses t s room = go (walk s)
   where
-    by-body : (ls : List Listing) (r : Option ℕ) → judged (and_then (verdict ls r) (λ ms. turning t s ms room)) ≡ and_then (body_fault r) (λ ok. judged (turning t s ls room))
+    by-body : (ls : List Listing) (r : prelude.Option ℕ) → judged (and_then (verdict ls r) (λ ms. turning t s ms room)) ≡ and_then (body_fault r) (λ ok. judged (turning t s ls room))
     by-body ls (Some at) = refl
     by-body ls None = refl
 

@@ -6,6 +6,7 @@ use mathlib.Core.List.{List, [], ◌∷◌}
 use lib.Dec.{leb}
 use lib.ListN.{length, drop, length-drop}
 use lib.Seq.{length-take-le}
+use Rattle.std.specs.Prelude.{Option, Some, None}
 use Rattle.model.specs.Outcome.{refused, done, and_then}
 use Rattle.model.specs.Post.{Post, docs, scores}
 use Rattle.model.specs.Runs.{All, Bytes}
@@ -13,8 +14,6 @@ use Rattle.model.proofs.Lists.{split, bytes_drop}
 use Rattle.shelf.specs.Walk.{Block, Listing, posts_of, strip_of, list, lists, walk}
 use Rattle.shelf.specs.Check.{bad_body}
 use Rattle.lookup.specs.Find.{find_of, found}
-use Rattle.std.specs.Prelude.{Option}
-use Rattle.std.specs.Prelude.{Some, None}
 use Rattle.shelf.proofs.Walks.{list-walked}
 use Rattle.lookup.proofs.Stands.{walk-lists, find_has}
 use Rattle.list.specs.Read.{held_by, in_room, read_blocks, read_list}

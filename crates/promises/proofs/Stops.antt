@@ -33,7 +33,7 @@ use Rattle.pruned.specs.Pruned.{Sought, Answer, fitting, sought, answer, searche
 use Rattle.pruned.proofs.Endings.{book-long}
 use Rattle.promises.specs.Refusals.{Numbered}
 use Rattle.promises.specs.Rows.{Past}
-use Rattle.promises.specs.Book.{Met, met_on, found, OpenRule, Passed, Stopped, Searching, Stopping, Ending}
+use Rattle.promises.specs.Book.{Met, met_on, found, OpenRule, Passed, Searching, Stopping, Ending}
 use Rattle.promises.specs.Served.{lists_for, interval_count}
 use Rattle.promises.proofs.Rows.{front-past}
 use Rattle.promises.proofs.Numbers.{then_numbered, either_numbered, renumbered, asked-numbered, walk-numbered}

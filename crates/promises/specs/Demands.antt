@@ -6,8 +6,9 @@ use Rattle.model.specs.Post.{Post, docs, scores, postings}
 use Rattle.model.specs.Runs.{All, has, Bytes}
 use Rattle.shelf.specs.Walk.{Listing, strip_of, walk}
 use Rattle.shelf.specs.Check.{checked, judged}
-use Rattle.lookup.specs.Find.{find_of, found, shown_of, paper_shown}
-use Rattle.lookup.specs.Show.{summary_shown, body_shown, paper_summary, paper_body, span_of}
+use Rattle.shelf.specs.Answers.{placed}
+use Rattle.lookup.specs.Find.{find_of, found}
+use Rattle.lookup.specs.Show.{summary_shown, body_shown, span_of}
 use Rattle.list.specs.Answer.{after}
 use Rattle.list.specs.Read.{read_list, docids_of, scores_of}
 use Rattle.list.specs.Write.{Full, write_list}
@@ -37,14 +38,14 @@ pub record Demand1 : Type 0 where
   -- "and refuses at the first fault in the stated order by its number,"
   pub query : (q : List ℕ) → judged (asked q) ≡ first_fault (query_faults q)
   pub check : (s : List ℕ) → judged (checked s) ≡ first_fault (check_faults s)
-  pub show : (t : ℕ) (s : List ℕ) → judged (paper_shown (shown_of (found t s))) ≡ first_fault (show_faults t s)
+  pub show : (t : ℕ) (s : List ℕ) → judged (placed (found t s)) ≡ first_fault (show_faults t s)
   pub show-block : (t : ℕ) (s : List ℕ) (j : ℕ)
-      → (judged (paper_summary (summary_shown s (shown_of (found t s)) j)) ≡ first_fault (block_faults t s j)) × (judged (paper_body (body_shown s (shown_of (found t s)) j)) ≡ first_fault (block_faults t s j))
+      → (judged (summary_shown s (placed (found t s)) j) ≡ first_fault (block_faults t s j)) × (judged (body_shown s (placed (found t s)) j) ≡ first_fault (block_faults t s j))
   -- without a fault it is the list's place, the block's numbers, and where the block's body starts and ends
   pub shown : (t : ℕ) (s : List ℕ) (j : ℕ)
-      → (paper_shown (shown_of (found t s)) ≡ and_then (found t s) (λ l. done l.place))
-      × (paper_summary (summary_shown s (shown_of (found t s)) j) ≡ and_then (block_shown t s j) (λ b. done b.sum))
-      × (paper_body (body_shown s (shown_of (found t s)) j) ≡ and_then (block_shown t s j) (λ b. done (span_of b)))
+      → (placed (found t s) ≡ and_then (found t s) (λ l. done l.place))
+      × (summary_shown s (placed (found t s)) j ≡ and_then (block_shown t s j) (λ b. done b.sum))
+      × (body_shown s (placed (found t s)) j ≡ and_then (block_shown t s j) (λ b. done (span_of b)))
   pub read : (t : ℕ) (s : List ℕ) (d w : ℕ) → judged (read_list t s d w) ≡ first_fault (read_faults t s d w)
   pub write : (strip : Bool) (t : ℕ) (ds ss : List ℕ) (room : ℕ) → judged (write_list strip t ds ss room) ≡ first_fault (write_faults strip t ds ss room)
   pub edit : (e : Edit) (s : List ℕ) (room : ℕ) → judged (edited e s room) ≡ first_fault (edit_faults e s room)

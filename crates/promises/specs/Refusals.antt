@@ -1,6 +1,7 @@
 -- "A refusal is given exactly when its row applies and none earlier in the order does." The faults of each entry point, in its order; each row says by
 -- itself whether it applies. Assumes nothing.
-use Rattle.std.specs.Prelude.{ℕ, min, max, ◌≡◌, Bool, false, not, cond, ◌&&◌, ◌||◌, List, [], ◌∷◌, ◌++◌, leb, ltb, eqb, length, drop}
+use Rattle.std.specs.Prelude.{ℕ, min, max, ◌≡◌, Bool, false, not, cond, ◌&&◌, ◌||◌, List, [], ◌∷◌, ◌++◌, leb, ltb, eqb, length, drop, Some, None, Result, Ok, Err}
+use Rattle.std.specs.Prelude as prelude
 use Rattle.std.proofs.Math.Option.{Option, none, some}
 use Rattle.model.specs.Outcome.{Outcome, refused, done, and_then}
 use Rattle.model.specs.Post.{postings}
@@ -11,15 +12,11 @@ use Rattle.shelf.specs.Check.{bad_body, bad_lists, judged}
 use Rattle.lookup.specs.Find.{found}
 use Rattle.lookup.specs.Gather.{term_blocks}
 use Rattle.lookup.specs.Show.{block_of}
-use Rattle.std.specs.Prelude.{Option}
-use Rattle.std.specs.Prelude.{Some, None}
 use Rattle.list.specs.Write.{fault_at, list_bytes}
 use Rattle.change.specs.Edits.{Edit}
 use Rattle.change.specs.Bytes.{pieces, joined, changed, in_range, there, within}
 use Rattle.convert.specs.Convert.{listed, turned_pieces}
 use Rattle.query.specs.Query.{Asked, term_at, terms_in, field_count, all_right, weighted, unrepeated}
-use Rattle.query.specs.declared.fields.FieldsRead.{FieldsRead}
-use Rattle.query.specs.declared.fields.FieldsRead.TheVariants.{Terms, Wrong}
 use Rattle.rank.specs.Match.{any_list}
 use Rattle.prune.specs.Cut as prune
 use Rattle.prune.specs.Cut.{starts}
@@ -60,17 +57,17 @@ Numbered P (done x) = Unit {0}
 abbrev pub k_in : List ℕ → ℕ
 k_in q = num 1 (drop 3 q)
 
-abbrev pub fields_of : FieldsRead → ℕ
-fields_of (Terms n) = n
-fields_of (Wrong at) = 0
+abbrev pub fields_of : Result ℕ ℕ → ℕ
+fields_of (Ok n) = n
+fields_of (Err at) = 0
 
-abbrev pub terms_read : List ℕ → FieldsRead → List Asked
+abbrev pub terms_read : List ℕ → Result ℕ ℕ → List Asked
 terms_read q r = terms_in (fields_of r) (drop 4 q)
 
 abbrev pub terms_asked : List ℕ → List Asked
 terms_asked q = terms_read q (field_count q)
 
-abbrev pub fields_faults : List ℕ → FieldsRead → List Fault
+abbrev pub fields_faults : List ℕ → Result ℕ ℕ → List Fault
 fields_faults q r =
     -- 1: "query fields wrong or cut short: first such field, or query length"
     judged (all_right r)
@@ -101,7 +98,7 @@ abbrev pub lists_on : List ℕ → List Listing
 lists_on s = lists_of (walk s)
 
 -- 8: "wrong body: its tag"
-abbrev pub body_fault : Option ℕ → Fault
+abbrev pub body_fault : prelude.Option ℕ → Fault
 body_fault None = done tt
 body_fault (Some at) = refused 8 at
 
