@@ -7,10 +7,10 @@ ghost use Rattle.lines.specs.Book.{max_output};
 ghost use Rattle.lines.specs.Said.{Speaks, input_of};
 ghost use Rattle.report.specs.Report.{search_shown, reported, told, Printable, Room};
 
+use intervals::stopped::Stopped;
 use lines::said::Said;
 use model::refusal::Fault;
 use pruned::search::Pruned;
-use intervals::stopped::Stopped;
 
 // The longest input that is searched.
 const MAX_INPUT: usize = 65536;
