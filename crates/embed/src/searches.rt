@@ -18,9 +18,7 @@ pub extern "C" fn tagmurlen_rank_all(
 {
     let rows = docids.len().min(scores.len());
     let ranked = exhaustive::all::rank_all(query, bytes, rows);
-    let verdict = ranked.verdict;
-    let kept = ranked.kept;
-    crate::rows::tell_hits(verdict, kept, docids, scores, value)
+    crate::rows::tell_hits(ranked, docids, scores, value)
 }
 
 // The same by the pruned search, which also fills the book's runs: the same numbers. Stores the three counts as well, 0 on a refusal except that 8
@@ -42,11 +40,18 @@ pub extern "C" fn tagmurlen_search(
     ensures { Finds (searched query.now bytes.now (min (length docids.old) (length scores.old)) firsts.old ceilings.old marks.old) docids.old scores.old docids.new scores.new firsts.new ceilings.new marks.new result value.new intervals.new opened.new blocks.new }
 {
     let rows = docids.len().min(scores.len());
-    let found = pruned::search::search(query, bytes, rows, firsts, ceilings, marks);
-    *intervals = found.intervals as u64;
-    *opened = found.opened as u64;
-    *blocks = found.blocks as u64;
-    let verdict = found.verdict;
-    let kept = found.kept;
-    crate::rows::tell_hits(verdict, kept, docids, scores, value)
+    match pruned::search::search(query, bytes, rows, firsts, ceilings, marks) {
+        Ok(found) => {
+            *intervals = found.intervals as u64;
+            *opened = found.opened as u64;
+            *blocks = found.blocks as u64;
+            crate::rows::tell_hits(Ok(found.kept), docids, scores, value)
+        }
+        Err(stopped) => {
+            *intervals = stopped.intervals as u64;
+            *opened = 0;
+            *blocks = 0;
+            crate::rows::tell_hits(Err(stopped.refusal), docids, scores, value)
+        }
+    }
 }

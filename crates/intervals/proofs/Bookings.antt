@@ -1,6 +1,6 @@
 -- From gathered blocks to the book's rows: what each step asks, and what the runs hold then. Assumes nothing.
 use Prim.Native.Nat.{ℕ, zero, suc, ◌+◌, ◌-◌, ◌≤◌, ◌<◌}
-use mathlib.Core.Path.{◌≡◌, refl, sym, ap, ◌∙◌}
+use mathlib.Core.Path.{◌≡◌, refl, sym, ap, ◌∙◌, subst}
 use mathlib.Core.Bool.{true, false, ◌&&◌}
 use mathlib.Core.List.{List, [], ◌∷◌, ◌++◌, map}
 use native.Mathlib.Omega.{arith}
@@ -13,17 +13,20 @@ use Rattle.model.specs.Limits.{max_docid}
 use Rattle.model.specs.Runs.{All, Holds}
 use Rattle.model.proofs.Lists.{and-true, both_ways}
 use Rattle.model.proofs.Storing.{holds-take}
-use Rattle.rank.specs.Keep.{no_hits}
-use Rattle.rank.specs.declared.keep.Kept.{Kept}
 use Rattle.prune.specs.Cut.{Block, Listing, Rises, ceiling_at, cuts, add_cuts, starts}
 use Rattle.prune.specs.Gather.{Fine, flat_edges}
 use Rattle.prune.proofs.Cuts.{cuts_asc}
 use Rattle.opening.specs.Table.{numbered, from_of, lists_in, block_in, sum_block, Ends}
 use Rattle.intervals.specs.Book.{ceilings_in, Raisable}
-use Rattle.intervals.specs.Run.{Runnable, Runs}
-use Rattle.intervals.specs.Blocks.{Walked, room_for, Books}
-use Rattle.intervals.specs.declared.run.Run.{Run}
+use Rattle.intervals.specs.Run.{Runnable}
+use Rattle.intervals.specs.Blocks.{Walked, room_for, Books, Over}
 use Rattle.intervals.proofs.Tables.{table_fine, table-cuts, ceiling-same}
+use Rattle.std.specs.Prelude.{Result, Err}
+use Rattle.model.specs.Refusal.{refusal}
+use Rattle.model.specs.declared.refusal.Fault.TheVariants as fault
+use Rattle.intervals.specs.Stopped.{early}
+use Rattle.intervals.specs.declared.stopped.Stopped.{Stopped}
+use Rattle.intervals.specs.declared.blocks.Booked.{Booked}
 
 rises-same : (A B : ℕ → Block) (p n f : ℕ) → ((i : ℕ) → (A i).least ≡ (B i).least) → ((i : ℕ) → (A i).greatest ≡ (B i).greatest) → Rises p (numbered A n f) → Rises p (numbered B n f)
 rises-same A B p zero f l g r = tt
@@ -86,6 +89,10 @@ module _ (s ends los his tops counts bodies weights : List ℕ) (k : ℕ) (ok : 
       pub firsts_are : take (m + 1 - 0) (drop 0 fs') ≡ starts max_docid ls
       firsts_are = front-part (m + 1) fs' ∙ holds-take fs (take (m + 1) (1 ∷ run)) fs' (m + 1) f ∙ starts_are
 
+      -- as many as there are intervals
+      pub size_is : m + 1 ≡ length (take (m + 1 - 0) (drop 0 fs'))
+      size_is = count-is ∙ sym (ap length firsts_are)
+
       pub blocks-raise : (zeros : List ℕ) → m + 1 ≤ length zeros → zeros ≡ replicate (length zeros) 0 → Raisable los his tops ends weights (take (m + 1 - 0) (drop 0 fs')) zeros
       blocks-raise zeros l z = rw firsts_are (record {
         rises = (omega arith, cuts_asc max_docid ls);
@@ -133,26 +140,29 @@ module _ (s ends los his tops counts bodies weights : List ℕ) (k : ℕ) (ok : 
           few = omega (arith, count-is);
         })
 
-        pub blocks-done : (cs cs' ms ms' : List ℕ) (r : Run) (x : ℕ) → room_for (m + 1) (length fs) (length cs) (length ms) ≡ true → Holds cs (take (m + 1) tall) cs' x
-            → Runs s ends los his tops counts bodies weights k (take (m + 1 - 0) (drop 0 fs')) ms ms' r
-            → Books s ends los his tops counts bodies weights k fs cs ms fs' cs' ms' (record { intervals = m + 1; run = r })
+        -- what was searched is over so many intervals
+        run-over : (ms ms' : List ℕ) (r : Result Booked Stopped) → Over s ends los his tops counts bodies weights k (take (m + 1 - 0) (drop 0 fs')) ms ms' r → Over s ends los his tops counts bodies weights k (starts max_docid ls) ms ms' r
+        run-over ms ms' r u = subst (λ (x : List ℕ). Over s ends los his tops counts bodies weights k x ms ms' r) firsts_are u
+
+        pub blocks-done : (cs cs' ms ms' : List ℕ) (r : Result Booked Stopped) (x : ℕ) → room_for (m + 1) (length fs) (length cs) (length ms) ≡ true → Holds cs (take (m + 1) tall) cs' x
+            → Over s ends los his tops counts bodies weights k (take (m + 1 - 0) (drop 0 fs')) ms ms' r
+            → Books s ends los his tops counts bodies weights k fs cs ms fs' cs' ms' r
         blocks-done cs cs' ms ms' r x e g u =
             let n : x ≡ m + 1 = omega (arith, g.count, ap length tall_is, length-map (starts max_docid ls) (ceiling_at ls), count-is) in
             record {
               filled = λ x. record {
-                intervals = count-is;
-                firsts = f.whole ∙ ap {B = List ℕ} (λ t. t ++ drop (m + 1) fs) starts_are;
-                ceilings = g.whole ∙ rw (tall_is, n);
-                run = rw firsts_are at u;
+                firsts = f.whole ∙ rw count-is (ap {B = List ℕ} (λ t. t ++ drop (length (starts max_docid ls)) fs) (rw count-is at starts_are));
+                ceilings = g.whole ∙ rw (tall_is, n, count-is);
+                run = run-over ms ms' r u;
               };
               refused = λ x. both_ways (room_for (length (starts max_docid ls)) (length fs) (length cs) (length ms)) (rw count-is at e) x;
             }
 
-    pub blocks-short : (fs cs ms : List ℕ) (t : Kept) → t ≡ no_hits → room_for (m + 1) (length fs) (length cs) (length ms) ≡ false
-        → Books s ends los his tops counts bodies weights k fs cs ms fs cs ms (record { intervals = 0; run = record { kept = t; opened = 0; wrong = 0 } })
-    blocks-short fs cs ms t z e = record {
+    pub blocks-short : (fs cs ms : List ℕ) → room_for (m + 1) (length fs) (length cs) (length ms) ≡ false
+        → Books s ends los his tops counts bodies weights k fs cs ms fs cs ms (Err (early (refusal fault.Room 0)))
+    blocks-short fs cs ms e = record {
       filled = λ x. both_ways (room_for (length (starts max_docid ls)) (length fs) (length cs) (length ms)) x (rw count-is at e);
-      refused = λ x. record { intervals = refl; firsts = refl; ceilings = refl; marks = refl; run = rw z };
+      refused = λ x. record { refused = refl; firsts = refl; ceilings = refl; marks = refl };
     }
 
 pub room_of : (n a b c : ℕ) → room_for n a b c ≡ true → (n ≤ a) × (n ≤ b) × (n ≤ c)

@@ -10,7 +10,7 @@ use lib.Dec.{ltb, leb}
 use lib.ListN.{length, get_or, set, take, drop, replicate, length-set, length-map, get_or-replicate, length-replicate, length-drop, take-append-drop}
 use lib.Seq.{sets, length-sets, sets-eq, drop-set-lt}
 use Rattle.model.proofs.Storing.{front-more}
-use borrow.Author.Tests.{lt-ltb, le-ltb, ltb-true, ltb-false}
+use borrow.Author.Tests.{ltb-true, ltb-false}
 use Rattle.model.specs.Limits.{max_docid, max_terms, per_list}
 use Rattle.model.specs.Runs.{All, Asc}
 use Rattle.model.specs.Outcome.{done}
@@ -33,15 +33,16 @@ use Rattle.scan.proofs.Loadings.{stood}
 use Rattle.opening.specs.Table.{gap, numbered, from_of, list_in, lists_in, block_in}
 use Rattle.opening.specs.Meet.{Placed, AllMoved}
 use Rattle.intervals.specs.Book.{opens_by, Skips}
-use Rattle.opening.specs.Enter.{AllStand, under, fault_from, new_from, Enterable}
+use Rattle.opening.specs.Enter.{AllStand, told, fault_from, new_from, Enterable}
 use Rattle.opening.specs.Turn.{term_met, Openable, Opens}
-use Rattle.intervals.specs.Run.{last_at, Runnable, Runs, Begins, Idles}
+use Rattle.intervals.specs.Run.{last_at, Runnable, Ended, Halted, Begins, Idles}
 use Rattle.opening.specs.declared.turn.Turn.{Turn}
 use Rattle.opening.proofs.Numbers.{numbered-length}
 use Rattle.opening.proofs.Meets.{met_low, met-reached}
 use Rattle.opening.proofs.Standings.{stood_stands, is-few}
 use Rattle.opening.proofs.Turns.{all-stand-on}
 use Rattle.intervals.proofs.Spans.{met_of, interval_at, no_span, spans-long, span_at, opens_by_lem, searching_pass, chosen-set, chosen-pass, terms-met, fault-met, count_phantom, count-more, count-nothing, asc_up, asc_step, drop-marked, fault_gaps, get_d_in}
+use Rattle.std.specs.Prelude as prelude
 
 meets-last : (los : List ℕ) (d : ℕ) (b : Block) → meets b d ≡ true → met_by (los ++ (d ∷ [])) b ≡ true
 meets-last [] d b e = rw e
@@ -361,9 +362,9 @@ module _ (s ends los his tops counts bodies weights : List ℕ) (k : ℕ) (first
         opens-here = sym (ap (opens k (kept_of kept)) (span_is i l)) ∙ o
 
         -- the search goes on
-        pub past_open : length s ≤ r.wrong → Past s ends los his tops counts bodies weights k firsts old (i + 1) r.kept (opened + r.fresh) r.heads ds' ss' ats' mets' (set row i 1)
+        pub past_open : r.wrong ≡ prelude.None → Past s ends los his tops counts bodies weights k firsts old (i + 1) r.kept (opened + r.fresh) r.heads ds' ss' ats' mets' (set row i 1)
         past_open h =
-            let none-wrong : under (length s) r.wrong ≡ none = rw (le-ltb r.wrong (length s) h) in
+            let none-wrong : told r.wrong ≡ none = ap told h in
             let right-now : fault_from B mets' max_terms 0 ≡ none = sym op.wrong ∙ none-wrong in
             let hits : kept_of r.kept ≡ keeps k (kept_of kept) (span_of any_list never ls (interval_at max_docid firsts i)).hits = op.hits none-wrong ∙ rw (le, terms_are) in
             let wide : i < length row = omega (arith, w.wide, w.same) in
@@ -404,40 +405,33 @@ module _ (s ends los his tops counts bodies weights : List ℕ) (k : ℕ) (first
             }
 
         -- it stops
-        pub past_stop : (mk row'' : List ℕ) (t : Kept) → t ≡ no_hits → r.wrong < length s → drop (length firsts) old ≡ drop (length firsts) mk
+        pub past_stop : (mk row'' : List ℕ) (at : ℕ) → r.wrong ≡ prelude.Some at → drop (length firsts) old ≡ drop (length firsts) mk
             → row'' ≡ sets (set row i 2) (i + 1) (replicate (length firsts - (i + 1)) 3)
-            → Runs s ends los his tops counts bodies weights k firsts mk row'' (record { kept = t; opened = 0; wrong = r.wrong })
-        past_stop mk row'' t z h d e =
-            let found : fault_at ls (get_or firsts i 0) ≡ some r.wrong = faults ∙ sym op.wrong ∙ rw (lt-ltb r.wrong (length s) h) in
-            let st = searching_stop k (spans any_list never max_docid ls) i (kept_of kept) row (no_span max_docid ls) (span_of any_list never ls (interval_at max_docid firsts i)) w.searching (omega (arith, spans_are)) (omega (arith, w.wide, w.same)) (span_is i l) r.wrong opens-here found in
+            → Halted s ends los his tops counts bodies weights k firsts mk row'' at
+        past_stop mk row'' at h d e =
+            let found : fault_at ls (get_or firsts i 0) ≡ some at = faults ∙ sym op.wrong ∙ ap told h in
+            let st = searching_stop k (spans any_list never max_docid ls) i (kept_of kept) row (no_span max_docid ls) (span_of any_list never ls (interval_at max_docid firsts i)) w.searching (omega (arith, spans_are)) (omega (arith, w.wide, w.same)) (span_is i l) at opens-here found in
             let left : length firsts - (i + 1) ≡ length (drop (suc i) (spans any_list never max_docid ls)) = omega (arith, length-drop (suc i) (spans any_list never max_docid ls), spans_are) in
             record {
-              found = rw (lt-ltb r.wrong (length s) h) (sym st.0);
+              found = sym st.0;
               marked = e ∙ stop-row row i (length firsts) l (omega (arith, w.wide, w.same))
                   ∙ rw (w.past, d)
                   (ap {B = List ℕ} (λ z. (take i row ++ 2 ∷ z) ++ drop (length firsts) mk)
                   (ap {B = List ℕ} (λ n. replicate n 3) left ∙ sym (all_three (drop (suc i) (spans any_list never max_docid ls))))
                   ∙ ap {B = List ℕ} (λ z. z ++ drop (length firsts) mk) (sym st.1));
-              opened = λ x. absurd (omega arith);
-              few = λ x. absurd (omega arith);
-              whole = λ x. absurd (omega arith);
-              stopped = λ x. (refl, z);
-              most = omega arith;
             }
 
     -- ---- past the last
     pub past-done : (mk : List ℕ) → length firsts ≤ i → drop (length firsts) old ≡ drop (length firsts) mk
-        → Runs s ends los his tops counts bodies weights k firsts mk row (record { kept = kept; opened = opened; wrong = length s })
+        → Ended s ends los his tops counts bodies weights k firsts mk row (record { kept = kept; opened = opened })
     past-done mk h d =
         let e : i ≡ length firsts = omega (arith, w.within) in
         let st = searching_done k (spans any_list never max_docid ls) i (kept_of kept) row w.searching (omega (arith, spans_are)) in
         record {
-          found = rw (le-ltb (length s) (length s) (omega arith)) (sym st.0);
+          found = sym st.0;
           marked = sym (take-append-drop (length firsts) row) ∙ rw (w.past, d) (ap {B = List ℕ} (λ z. z ++ drop (length firsts) mk) (ap {B = List ℕ} (λ n. take n row) (sym e) ∙ sym st.1));
-          opened = λ x. w.count ∙ count_phantom B ends weights most rises (chosen (take i row) firsts) (length ends) 0 (omega arith)
+          opened = w.count ∙ count_phantom B ends weights most rises (chosen (take i row) firsts) (length ends) 0 (omega arith)
               ∙ ap {B = ℕ} (λ z. count_met (chosen z firsts) ls) (sym st.1) ∙ ap {B = ℕ} (λ z. count_met (chosen (book any_list never max_docid k ls) z) ls) ok.first;
-          few = λ x. w.room;
-          whole = λ x. w.whole;
-          stopped = λ x. absurd (omega arith);
-          most = omega arith;
+          few = w.room;
+          whole = w.whole;
         }

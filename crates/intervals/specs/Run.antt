@@ -1,10 +1,9 @@
 -- The search over intervals, out of the numbered blocks. Assumes nothing.
-use Rattle.std.specs.Prelude.{ℕ, ◌+◌, ◌-◌, ◌*◌, ◌≤◌, ◌<◌, ◌≡◌, cond, List, [], map, ◌++◌, ltb, length, get_or, drop}
+use Rattle.std.specs.Prelude.{ℕ, ◌+◌, ◌-◌, ◌*◌, ◌≤◌, ◌<◌, ◌≡◌, cond, List, [], map, ◌++◌, ltb, length, get_or, drop, Result, Ok, Err}
 use Rattle.model.specs.Limits.{max_docid, max_terms, max_k}
-use Rattle.model.specs.Outcome.{Outcome, refused, done}
-use Rattle.rank.specs.Rank.{Hit}
+use Rattle.model.specs.Outcome.{refused, done}
 use Rattle.rank.specs.Match.{any_list}
-use Rattle.rank.specs.Keep.{kept_of, no_hits, keeper}
+use Rattle.rank.specs.Keep.{kept_of, keeper}
 use Rattle.prune.specs.Cut.{ceiling_at}
 use Rattle.prune.specs.Cut as cut
 use Rattle.prune.specs.Prune.{never, pruned, book, blocks_opened}
@@ -34,18 +33,22 @@ pub record Runnable (shelf ends los his tops counts bodies weights : List ℕ) (
   pub room : length starts ≤ length marks
   pub few : length starts ≤ 2 * gap + 1
 
--- what the search found: "8: wrong body: its tag", or its hits
-abbrev pub found_by : (limit : ℕ) → Run → Outcome (List Hit)
-found_by limit r = cond (ltb r.wrong limit) (refused 8 r.wrong) (done (kept_of r.kept))
-
-pub record Runs (shelf ends los his tops counts bodies weights : List ℕ) (k : ℕ) (starts marks marks' : List ℕ) (r : Run) : Type 0 where
-  pub found : found_by (length shelf) r ≡ pruned any_list never max_docid k (lists_in (block_in shelf los his tops counts bodies) ends weights)
+-- all intervals were gone through: the hits, the marks of the book, and how many blocks were opened
+pub record Ended (shelf ends los his tops counts bodies weights : List ℕ) (k : ℕ) (starts marks marks' : List ℕ) (r : Run) : Type 0 where
+  pub found : done (kept_of r.kept) ≡ pruned any_list never max_docid k (lists_in (block_in shelf los his tops counts bodies) ends weights)
   pub marked : marks' ≡ book any_list never max_docid k (lists_in (block_in shelf los his tops counts bodies) ends weights) ++ drop (length starts) marks
-  pub opened : length shelf ≤ r.wrong → r.opened ≡ blocks_opened any_list never max_docid k (lists_in (block_in shelf los his tops counts bodies) ends weights)
-  pub few : length shelf ≤ r.wrong → r.kept.n ≤ k
-  pub whole : length shelf ≤ r.wrong → r.kept ≡ keeper (kept_of r.kept)
-  pub stopped : r.wrong < length shelf → (r.opened ≡ 0) × (r.kept ≡ no_hits)
-  pub most : r.wrong ≤ length shelf
+  pub opened : r.opened ≡ blocks_opened any_list never max_docid k (lists_in (block_in shelf los his tops counts bodies) ends weights)
+  pub few : r.kept.n ≤ k
+  pub whole : r.kept ≡ keeper (kept_of r.kept)
+
+-- one stopped the search: "8: wrong body: its tag"
+pub record Halted (shelf ends los his tops counts bodies weights : List ℕ) (k : ℕ) (starts marks marks' : List ℕ) (at : ℕ) : Type 0 where
+  pub found : refused 8 at ≡ pruned any_list never max_docid k (lists_in (block_in shelf los his tops counts bodies) ends weights)
+  pub marked : marks' ≡ book any_list never max_docid k (lists_in (block_in shelf los his tops counts bodies) ends weights) ++ drop (length starts) marks
+
+abbrev pub Runs : (shelf ends los his tops counts bodies weights : List ℕ) (k : ℕ) (starts marks marks' : List ℕ) → Result Run ℕ → Type 0
+Runs shelf ends los his tops counts bodies weights k starts marks marks' (Ok r) = Ended shelf ends los his tops counts bodies weights k starts marks marks' r
+Runs shelf ends los his tops counts bodies weights k starts marks marks' (Err at) = Halted shelf ends los his tops counts bodies weights k starts marks marks' at
 
 -- the first n lists' places are before their first blocks
 pub record Begins (ends ats : List ℕ) (n : ℕ) : Type 0 where

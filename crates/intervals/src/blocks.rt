@@ -3,9 +3,10 @@ ghost use Rattle.std.specs.Prelude.{◌≡◌};
 ghost use Rattle.intervals.specs.Blocks.{Walked, room_for, Books};
 
 use crate::run::Run;
-use rank::keep::Kept;
+use crate::stopped::Stopped;
+use model::refusal::Fault;
 
-// How many intervals there are, and what the search found; 0 where the book has no room for them.
+// How many intervals there are, and what the search found.
 #[derive(Drop)]
 pub struct Booked {
     pub intervals: usize,
@@ -33,41 +34,39 @@ pub fn over_blocks(
     firsts: &mut [u32],
     ceilings: &mut [u32],
     marks: &mut [u8],
-) -> Booked
+) -> Result<Booked, Stopped>
     requires { Walked shelf.now ends.now los.now his.now tops.now counts.now bodies.now weights.now k }
     ensures { Books shelf.now ends.now los.now his.now tops.now counts.now bodies.now weights.now k firsts.old ceilings.old marks.old firsts.new ceilings.new marks.new result }
 {
     let mut cuts = [0u32; 1024];
     let m = prune::cut::all_cuts(ends, los, his, model::MAX_DOCID, &mut cuts);
     let n = m + 1;
-    if has_room(n, firsts.len(), ceilings.len(), marks.len()) {
-        crate::book::fill_firsts(&cuts, m, firsts);
-        let mut tall = [0u32; 1025];
-        crate::book::fill_ceilings(&firsts[0..n], ends, los, his, tops, weights, &mut tall);
-        prune::cut::copy_run(&tall, n, ceilings);
-        let run = crate::run::over_intervals(
-            shelf,
-            ends,
-            los,
-            his,
-            tops,
-            counts,
-            bodies,
-            weights,
-            k,
-            &firsts[0..n],
-            &tall[0..n],
-            marks,
-        );
-        return Booked { intervals: n, run };
+    if !has_room(n, firsts.len(), ceilings.len(), marks.len()) {
+        return Err(Stopped::from(Fault::Room.at(0)));
     }
-    let none = Run {
-        kept: Kept::new(),
-        opened: 0,
-        wrong: 0,
-    };
-    Booked {
-        intervals: 0,
-        run: none,
+    crate::book::fill_firsts(&cuts, m, firsts);
+    let mut tall = [0u32; 1025];
+    crate::book::fill_ceilings(&firsts[0..n], ends, los, his, tops, weights, &mut tall);
+    prune::cut::copy_run(&tall, n, ceilings);
+    let found = crate::run::over_intervals(
+        shelf,
+        ends,
+        los,
+        his,
+        tops,
+        counts,
+        bodies,
+        weights,
+        k,
+        &firsts[0..n],
+        &tall[0..n],
+        marks,
+    );
+    match found {
+        Ok(run) => Ok(Booked { intervals: n, run }),
+        Err(at) => Err(Stopped {
+            refusal: Fault::Body.at(at),
+            intervals: n,
+        }),
     }
 }

@@ -4,3 +4,4 @@
 pub mod blocks;
 pub mod book;
 pub mod run;
+pub mod stopped;

@@ -9,13 +9,11 @@ use rank::keep::Kept;
 use scan::head::Head;
 use std::array;
 
-// What the search found: the hits kept, how many blocks were opened, and the least offset of a wrong body's tag where it stopped;
-// the shelf's length where it did not stop.
+// What the search found: the hits kept, and how many blocks were opened.
 #[derive(Drop)]
 pub struct Run {
     pub kept: Kept,
     pub opened: usize,
-    pub wrong: usize,
 }
 
 // Every list's place before its first block: the first at 0, each other where the list before it ends.
@@ -55,7 +53,7 @@ fn kth_of(kept: Kept, k: usize) -> u32
     rank::keep::kth_in(&kept.scores, kept.n, k)
 }
 
-// Each interval in turn, from the blocks that the walk has seen to.
+// Each interval in turn, from the blocks that the walk has seen to; or the least offset of a wrong body's tag, where one stops the search.
 pub(crate) fn over_intervals(
     shelf: &[u8],
     ends: &[usize],
@@ -69,12 +67,11 @@ pub(crate) fn over_intervals(
     starts: &[u32],
     ceilings: &[u32],
     marks: &mut [u8],
-) -> Run
+) -> Result<Run, usize>
     requires { Runnable shelf.now ends.now los.now his.now tops.now counts.now bodies.now weights.now k starts.now ceilings.now marks.old }
     ensures { Runs shelf.now ends.now los.now his.now tops.now counts.now bodies.now weights.now k starts.now marks.old marks.new result }
 {
     let n = starts.len();
-    let none = shelf.len();
     let mut docs = [0u32; 800];
     let mut scores = [0u16; 800];
     let mut ats = [0usize; 8];
@@ -107,15 +104,10 @@ pub(crate) fn over_intervals(
             k,
             kept,
         );
-        let wrong = turn.wrong;
-        if wrong < none {
+        if let Some(at) = turn.wrong {
             marks[i] = 2;
             marks[i + 1..n].fill(3);
-            return Run {
-                kept: Kept::new(),
-                opened: 0,
-                wrong,
-            };
+            return Err(at);
         }
         heads = turn.heads;
         kept = turn.kept;
@@ -124,9 +116,5 @@ pub(crate) fn over_intervals(
         let kth = kth_of(kept, k);
         i = crate::book::skip_shut(ceilings, n, kth, i + 1, marks);
     }
-    Run {
-        kept,
-        opened,
-        wrong: none,
-    }
+    Ok(Run { kept, opened })
 }

@@ -1,4 +1,4 @@
--- Hits in rows: a keeper's hits are written one by one, and an outcome with its keeper is what its rows then tell. Assumes nothing.
+-- Hits in rows: a keeper's hits are written one by one, and its rows are then those of the outcome. Assumes nothing.
 use native.Mathlib.Omega.{arith}
 use native.Mathlib.Numerals.{add-one}
 use Prim.Native.Nat.{ℕ, zero, suc, ◌+◌, ◌≤◌, ◌<◌, min}
@@ -8,18 +8,15 @@ use lib.ListN.{length, set, take, drop, get_or, length-take, drop_of_length-le}
 use lib.Dec.{leb}
 use lib.Seq.{take_all, take-take, length-take-le}
 use borrow.Author.Tests.{leb-true, leb-false}
-use Rattle.model.specs.Outcome.{Outcome, refused, done}
+use Rattle.model.specs.Outcome.{Outcome, done}
 use Rattle.model.specs.Post.{postings}
 use Rattle.model.proofs.Lists.{split}
 use Rattle.model.proofs.Posts.{count_of}
 use Rattle.rank.specs.Rank as rank
-use Rattle.rank.specs.Keep.{kept_of, no_hits}
+use Rattle.rank.specs.Keep.{kept_of, keeper}
 use Rattle.rank.specs.declared.keep.Kept.{Kept}
 use Rattle.prune.proofs.Rooms.{Within}
-use Rattle.exhaustive.specs.Exhaustive.{paper_of}
-use Rattle.exhaustive.specs.declared.all.Verdict.{Verdict}
-use Rattle.exhaustive.specs.declared.all.Verdict.TheVariants.{Done, Refused}
-use Rattle.lent.specs.Rows.{with_hits, number_of, offset_of, hits_of, Rowed, Counts, number_in, offset_in, Tells}
+use Rattle.lent.specs.Rows.{with_hits, Rowed, Counts}
 use Rattle.lent.specs.declared.rows.Hit.{Hit}
 
 -- ---- rows with hits in front
@@ -75,41 +72,12 @@ pub held_as : (t : Kept) (m n : ℕ) → length t.docids ≡ 100 → length t.sc
 held_as t m n a b e =
     record { count = omega (arith, length-take t.n (postings t.docids t.scores), count_of t.docids t.scores (omega arith)); most = omega arith }
 
--- ---- an outcome and its keeper
+-- ---- an outcome once its hits are written: a ranking within the rows has a row for each
 
--- a refusal's keeper has no hits
-abbrev pub Cleared : Verdict → Kept → Type 0
-Cleared v t = (n at : ℕ) → v ≡ Refused n at → t ≡ no_hits
-
-told-number : (v : Verdict) (hs : List rank.Hit) → number_in v ≡ number_of (paper_of v hs)
-told-number Done hs = refl
-told-number (Refused n at) hs = refl
-
-told-offset : (v : Verdict) (hs : List rank.Hit) → offset_in v ≡ offset_of (paper_of v hs)
-told-offset Done hs = refl
-told-offset (Refused n at) hs = refl
-
-told-hits : (v : Verdict) (t : Kept) → Cleared v t → kept_of t ≡ hits_of (paper_of v (kept_of t))
-told-hits Done t c = refl
-told-hits (Refused n at) t c = ap kept_of (c n at refl)
-
--- a ranking within the rows has a row for each hit
-few-hits : (o : Outcome (List rank.Hit)) (m : ℕ) → Within length m o → length (hits_of o) ≤ m
-few-hits (refused n at) m w = omega arith
-few-hits (done hs) m w = w
-
-pub tells : (o : Outcome (List rank.Hit)) (m : ℕ) (v : Verdict) (t : Kept) (n at c : ℕ) → paper_of v (kept_of t) ≡ o → Cleared v t → Within length m o → n ≡ number_in v → at ≡ offset_in v → Counts t m c → Tells o m n at c t
-tells o m v t n at c e z w f g h =
-    let le = few-hits o m w in
-    let k : kept_of t ≡ hits_of o = told-hits v t z ∙ ap hits_of e in
-    let l : length (kept_of t) ≡ length (hits_of o) = ap length k in
-    record {
-      told = record { number = f ∙ told-number v (kept_of t) ∙ ap number_of e; offset = g ∙ told-offset v (kept_of t) ∙ ap offset_of e; hits = omega (arith, h.count) };
-      kept = k;
-      room = le;
-    }
-
--- once they are written
-pub rowed : (o : Outcome (List rank.Hit)) (n at c : ℕ) (t : Kept) (old new : List Hit) → Tells o (length old) n at c t → new ≡ with_hits (take (length old) (kept_of t)) old → Rowed o n at c old new
-rowed o n at c t old new k e =
-    record { told = k.told; rows = e ∙ ap (λ hs. with_hits (take (length old) hs) old) k.kept ∙ ap (λ hs. with_hits hs old) (take_all (length old) (hits_of o) k.room) }
+pub rowed : {o : Outcome (List rank.Hit)} (t : Kept) (old new : List Hit) → done (kept_of t) ≡ o → t ≡ keeper (kept_of t) → Within length (length old) o
+    → new ≡ with_hits (take (length old) (kept_of t)) old → Rowed o 0 0 t.n old new
+rowed t old new e z w f =
+    let room : length (kept_of t) ≤ length old = rw (sym e) at w in
+    let n : t.n ≡ length (kept_of t) = ap (λ (x : Kept). x.n) z in
+    let rows : new ≡ with_hits (kept_of t) old = f ∙ ap (λ hs. with_hits hs old) (take_all (length old) (kept_of t) room) in
+    rw (← e) (record { told = record { number = refl; offset = refl; hits = n }; rows = rows })

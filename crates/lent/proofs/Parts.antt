@@ -1,5 +1,5 @@
 -- What is shown of a body stands within the shelf; of a list that was found it is the block's body. Assumes nothing.
-use Prim.Native.Nat.{ℕ, ◌+◌, ◌-◌}
+use Prim.Native.Nat.{ℕ, ◌+◌, ◌-◌, ◌≤◌}
 use mathlib.Core.Path.{◌≡◌}
 use mathlib.Core.List.{List}
 use native.Mathlib.Omega.{arith}
@@ -10,10 +10,17 @@ use Rattle.wire.specs.Field.{whole}
 use Rattle.wire.proofs.Fields.{whole-size}
 use Rattle.block.specs.Body.{is_strip, tag_of}
 use Rattle.shelf.specs.Walk.{Block, Listing, bodies}
-use Rattle.lookup.specs.Find.{found, placed}
-use Rattle.lookup.specs.Show.{bodies_from, has_block, part_at, part_past, body_shown, block_of}
+use Rattle.shelf.specs.Answers.{placed}
+use Rattle.shelf.specs.declared.walk.Place.{Place}
+use Rattle.lookup.specs.Find.{found}
+use Rattle.lookup.specs.Show.{bodies_from, has_block, part_at, part_past, body_shown, block_of, Span, span_of}
 use Rattle.lookup.proofs.Showings.{shown-body, shown-bytes}
-use Rattle.lent.specs.View.{Inside, bytes_of}
+use Rattle.lent.specs.View.{bytes_of}
+
+-- a part that ends within the shelf
+abbrev pub Inside : List ℕ → Outcome Span → Type 0
+Inside s (done p) = (p.start ≤ p.end) × (p.end ≤ length s)
+Inside s (refused n o) = Unit {0}
 
 part-inside : (s : List ℕ) (b : ℕ) → Inside s (part_at s b)
 unfolding part_at
@@ -33,8 +40,13 @@ body-inside s (refused n o) j = tt
 body-inside s (done p) j =
     split (has_block s p j) (λ e. rw e (past-inside s (bodies j (bodies_from p) (drop (bodies_from p) s)))) (λ e. rw e tt)
 
--- of a list that was found, the bytes shown are the block's body
-pub body_bytes_lem : (t : ℕ) (s : List ℕ) (l : Listing) (j : ℕ) (b : Block) → found t s ≡ done l → block_of l.blocks j ≡ done b → bytes_of s (body_shown s (placed (found t s)) j) ≡ b.body
+pub span-inside : (s : List ℕ) (p : Outcome Place) (j : ℕ) (r : Span) → body_shown s p j ≡ done r → (r.start ≤ r.end) × (r.end ≤ length s)
+span-inside s p j r e = rw e at (body-inside s p j)
+
+-- of a list that was found, the body of each of its blocks is shown, and the bytes shown are that body
+pub body_bytes_lem : (t : ℕ) (s : List ℕ) (l : Listing) (j : ℕ) (b : Block) → found t s ≡ done l → block_of l.blocks j ≡ done b
+    → (p : Span) × (body_shown s (placed (found t s)) j ≡ done p) × (bytes_of s p ≡ b.body)
 body_bytes_lem t s l j b e q =
+    let shown : body_shown s (placed (found t s)) j ≡ done (span_of b) = rw (shown-body t s l e j, q) in
     let n : b.body_at + 3 + length b.body - (b.body_at + 3) ≡ length b.body = omega arith in
-    rw (shown-body t s l e j, q, n) (shown-bytes t s l e j b q)
+    (span_of b, shown, rw n (shown-bytes t s l e j b q))

@@ -5,8 +5,6 @@ use Rattle.model.specs.Outcome.{Outcome, refused, done}
 use Rattle.rank.specs.Rank as rank
 use Rattle.rank.specs.Keep.{kept_of}
 use Rattle.rank.specs.declared.keep.Kept.{Kept}
-use Rattle.exhaustive.specs.declared.all.Verdict.{Verdict}
-use Rattle.exhaustive.specs.declared.all.Verdict.TheVariants.{Done, Refused}
 use Rattle.lent.specs.declared.rows.Hit.{Hit}
 
 -- a hit as a row
@@ -50,18 +48,3 @@ pub record Rowed (o : Outcome (List rank.Hit)) (n at c : ℕ) (old new : List Hi
 pub record Counts (t : Kept) (m n : ℕ) : Type 0 where
   pub count : n ≡ min (length (kept_of t)) m
   pub most : n ≤ max_k
-
--- what a verdict tells
-abbrev pub number_in : Verdict → ℕ
-number_in Done = 0
-number_in (Refused n o) = n
-
-abbrev pub offset_in : Verdict → ℕ
-offset_in Done = 0
-offset_in (Refused n o) = o
-
--- an outcome before its hits are written
-pub record Tells (o : Outcome (List rank.Hit)) (m : ℕ) (n at c : ℕ) (t : Kept) : Type 0 where
-  pub told : Told o n at c
-  pub kept : kept_of t ≡ hits_of o
-  pub room : length (hits_of o) ≤ m

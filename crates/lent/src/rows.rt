@@ -1,13 +1,11 @@
-// Hits written into lent rows, a docid beside its score. All decisions are made over numbers and values; the functions that hold the rows only pass
-// them on and fill them.
+// Hits written into lent rows, a docid beside its score.
 ghost use Rattle.std.specs.Prelude.{◌≡◌, ◌<◌, length, take};
 ghost use Rattle.rank.specs.Keep.{kept_of};
 ghost use Rattle.exhaustive.specs.Exhaustive.{rank_all};
 ghost use Rattle.pruned.specs.Pruned.{searched};
-ghost use Rattle.lent.specs.Search.{Booked, Searched};
-ghost use Rattle.lent.specs.Rows.{with_hits, Counts, number_in, offset_in, Tells, Rowed};
+ghost use Rattle.lent.specs.Search.{Searched};
+ghost use Rattle.lent.specs.Rows.{with_hits, Counts, Rowed};
 
-use exhaustive::all::Verdict;
 use rank::keep::Kept;
 
 // A row: a docid beside its score.
@@ -38,26 +36,6 @@ pub fn fill<'a>(rows: &'a mut [Hit], kept: Kept)
     }
 }
 
-// The refusal's number, 0 where there is none.
-fn number_of(verdict: Verdict) -> u32
-    ensures { result ≡ number_in verdict }
-{
-    match verdict {
-        Verdict::Done => 0,
-        Verdict::Refused(number, at) => number as u32,
-    }
-}
-
-// The refusal's offset, 0 where there is none.
-fn offset_of(verdict: Verdict) -> u64
-    ensures { result ≡ offset_in verdict }
-{
-    match verdict {
-        Verdict::Done => 0,
-        Verdict::Refused(number, at) => at as u64,
-    }
-}
-
 // ---- the exhaustive ranker
 
 // The refusal's number and offset, both 0 where there is none; the number of hits, 0 in a refusal.
@@ -69,38 +47,25 @@ pub struct RankedRows {
     pub hits: u64,
 }
 
-// What is answered, and the hits that are still to be written.
-#[derive(Drop)]
-struct Ranking {
-    answer: RankedRows,
-    kept: Kept,
-}
-
-// The ranking for a number of rows.
-fn rank<'a>(query: &'a [u8], shelf: &'a [u8], room: usize) -> Ranking
-    ensures { Tells (rank_all query.now shelf.now room) room result.answer.number result.answer.offset result.answer.hits result.kept }
-{
-    let ranked = exhaustive::all::rank_all(query, shelf, room);
-    let verdict = ranked.verdict;
-    let kept = ranked.kept;
-    Ranking {
-        answer: RankedRows {
-            number: number_of(verdict),
-            offset: offset_of(verdict),
-            hits: held(kept, room) as u64,
-        },
-        kept: kept,
-    }
-}
-
 // The k best documents of a query, all its lists read, in the first rows: numbers 1 to 5, 6, 7, 9, 8. A refusal leaves the rows as they were.
 pub fn tagmurlen_rank_rows<'a>(query: &'a [u8], shelf: &'a [u8], rows: &'a mut [Hit]) -> RankedRows
     ensures { Rowed (rank_all query.now shelf.now (length rows.old)) result.number result.offset result.hits rows.old rows.new }
 {
-    let ranking = rank(query, shelf, rows.len());
-    let kept = ranking.kept;
-    fill(rows, kept);
-    ranking.answer
+    match exhaustive::all::rank_all(query, shelf, rows.len()) {
+        Ok(kept) => {
+            fill(rows, kept);
+            RankedRows {
+                number: 0,
+                offset: 0,
+                hits: kept.n as u64,
+            }
+        }
+        Err(refusal) => RankedRows {
+            number: u32::from(u8::from(refusal.fault)),
+            offset: refusal.offset as u64,
+            hits: 0,
+        },
+    }
 }
 
 // ---- the pruned ranker
@@ -118,41 +83,6 @@ pub struct SearchedRows {
     pub hits: u64,
 }
 
-// What is answered, and the hits that are still to be written.
-#[derive(Drop)]
-struct Searching {
-    answer: SearchedRows,
-    kept: Kept,
-}
-
-// The search for a number of rows, its book filled.
-fn seek<'a>(
-    query: &'a [u8],
-    shelf: &'a [u8],
-    room: usize,
-    firsts: &'a mut [u32],
-    ceilings: &'a mut [u32],
-    marks: &'a mut [u8],
-) -> Searching
-    ensures { Tells (searched query.now shelf.now room firsts.old ceilings.old marks.old).outcome room result.answer.number result.answer.offset result.answer.hits result.kept
-        × Booked (searched query.now shelf.now room firsts.old ceilings.old marks.old) firsts.new ceilings.new marks.new result.answer }
-{
-    let pruned = pruned::search::search(query, shelf, room, firsts, ceilings, marks);
-    let verdict = pruned.verdict;
-    let kept = pruned.kept;
-    Searching {
-        answer: SearchedRows {
-            number: number_of(verdict),
-            offset: offset_of(verdict),
-            intervals: pruned.intervals as u64,
-            opened: pruned.opened as u64,
-            blocks: pruned.blocks as u64,
-            hits: held(kept, room) as u64,
-        },
-        kept: kept,
-    }
-}
-
 // The k best documents of a query in the first rows, and the book of the search: numbers 1 to 5, 6, 7, 9, 8. A refusal leaves the rows as they were.
 pub fn tagmurlen_search_rows<'a>(
     query: &'a [u8],
@@ -164,8 +94,25 @@ pub fn tagmurlen_search_rows<'a>(
 ) -> SearchedRows
     ensures { Searched (searched query.now shelf.now (length rows.old) firsts.old ceilings.old marks.old) rows.old rows.new firsts.new ceilings.new marks.new result }
 {
-    let searching = seek(query, shelf, rows.len(), firsts, ceilings, marks);
-    let kept = searching.kept;
-    fill(rows, kept);
-    searching.answer
+    match pruned::search::search(query, shelf, rows.len(), firsts, ceilings, marks) {
+        Ok(found) => {
+            fill(rows, found.kept);
+            SearchedRows {
+                number: 0,
+                offset: 0,
+                intervals: found.intervals as u64,
+                opened: found.opened as u64,
+                blocks: found.blocks as u64,
+                hits: found.kept.n as u64,
+            }
+        }
+        Err(stopped) => SearchedRows {
+            number: u32::from(u8::from(stopped.refusal.fault)),
+            offset: stopped.refusal.offset as u64,
+            intervals: stopped.intervals as u64,
+            opened: 0,
+            blocks: 0,
+            hits: 0,
+        },
+    }
 }

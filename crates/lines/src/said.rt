@@ -22,13 +22,7 @@ pub fn begin<'a>(
     ensures { Begun name.now input.entry room err.old err.new result }
 {
     let unread = b": standard input could not be read\n";
-    if room < MAX_OUTPUT {
-        return Err(0);
-    }
-    if err.len() < unread.len() {
-        return Err(0);
-    }
-    if err.len() - unread.len() < name.len() {
+    if room < MAX_OUTPUT || err.len() < name.len() + unread.len() {
         return Err(0);
     }
     if let Some(bytes) = input {

@@ -1,14 +1,14 @@
 -- The lists stand: one is entered, the others keep what they have; all are entered one after another; an interval is run. Assumes nothing.
 use Prim.Native.Nat.{ℕ, zero, suc, ◌+◌, ◌-◌, ◌≤◌, ◌<◌, min}
 use mathlib.Core.Path.{◌≡◌, refl, sym, ap, ◌∙◌}
-use mathlib.Core.Bool.{true, false, cond}
+use mathlib.Core.Bool.{true, cond}
 use mathlib.Core.Option.{Option, none, some}
 use mathlib.Core.List.{List, [], ◌∷◌}
 use native.Mathlib.Omega.{arith}
 use lib.Dec.{ltb, eqb}
 use lib.ListN.{length, get_or, set, drop, length-set}
 use lib.Seq.{sets, length-sets, get_or-set_same, get_or-set_other}
-use borrow.Author.Tests.{lt-ltb, le-ltb, ltb-true, ltb-false, eqb-true, eqb-false, eq-eqb, ne_eqb}
+use borrow.Author.Tests.{ltb-true, ltb-false, eqb-true, eqb-false, eq-eqb, ne_eqb}
 use Rattle.model.specs.Limits.{max_terms}
 use Rattle.model.specs.Post.{Post, docs, scores, Rising}
 use Rattle.model.specs.Outcome.{Outcome, refused, done}
@@ -26,8 +26,9 @@ use Rattle.scan.specs.Load.{head_of}
 use Rattle.scan.specs.declared.head.Head.{Head}
 use Rattle.scan.proofs.Loadings.{Stood, Roomed, stood, other-term, other-inside, load-room}
 use Rattle.opening.specs.Table.{gap, sum_in, block_in}
-use Rattle.opening.specs.Enter.{Loadable, bytes_in, new_run, Enters, body_of, is_new, Stands, AllStand, under, fault_from, new_from, EntersAll, Space, entered_from}
+use Rattle.opening.specs.Enter.{Loadable, bytes_in, new_run, Enters, body_of, is_new, Stands, AllStand, told, fault_from, new_from, EntersAll, Space, entered_from}
 use Rattle.opening.specs.declared.enter.Entry.{Entry}
+use Rattle.std.specs.Prelude as prelude
 
 -- ---- a right body's docids rise
 
@@ -85,23 +86,23 @@ module _ (s los his tops counts bodies : List ℕ) (w t was m : ℕ) (ds ss : Li
     entered_stands p st =
         split (eqb m was)
         (λ e. let q : m ≡ was = eqb-true m was e in
-        let a : r ≡ record { head = h; fresh = 0; wrong = length s } = rw e at en.answer in
+        let a : r ≡ record { head = h; fresh = 0; wrong = prelude.None } = rw e at en.answer in
         let x : ds' ≡ ds = rw e at en.docids in
         let y : ss' ≡ ss = rw e at en.scored in
         rw (a, x, y, q) st)
         (λ e. split (eqb m gap)
-        (λ g. let a : r ≡ record { head = head_of w t []; fresh = 0; wrong = length s } = rw (e, g) at en.answer in
+        (λ g. let a : r ≡ record { head = head_of w t []; fresh = 0; wrong = prelude.None } = rw (e, g) at en.answer in
         rw (a, g) (stood_stands ds' ss' w p t (done []) [] (head_of w t []) refl tt empty))
         (λ g. split (right_body (sum_in s los his tops counts bodies m) (bytes_in s bodies m))
         (λ x. let run = body_run (sum_in s los his tops counts bodies m) (bytes_in s bodies m) in
-        let a : r ≡ record { head = head_of w t run; fresh = 1; wrong = length s } = rw (e, g, x) at en.answer in
+        let a : r ≡ record { head = head_of w t run; fresh = 1; wrong = prelude.None } = rw (e, g, x) at en.answer in
         let y : ds' ≡ sets ds (part_of t) (docs run) = rw (e, g) at en.docids in
         let z : ss' ≡ sets ss (part_of t) (scores run) = rw (e, g) at en.scored in
         let ng : (m ≡ gap → ⊥) = eqb-false m gap g in
         rw (a, g, x, y, z)
         (stood_stands (sets ds (part_of t) (docs run)) (sets ss (part_of t) (scores run)) w p t (done run) run (head_of w t run) refl (rises-of s los his tops counts bodies m b (ok ng) x)
         (stood w t run ds ss (load-room (sum_in s los his tops counts bodies m) (bytes_in s bodies m) t ds ss (loadable ng)))))
-        (λ x. let a : r ≡ record { head = head_of w t []; fresh = 1; wrong = get_or bodies m 0 } = rw (e, g, x) at en.answer in
+        (λ x. let a : r ≡ record { head = head_of w t []; fresh = 1; wrong = prelude.Some (get_or bodies m 0) } = rw (e, g, x) at en.answer in
         rw (a, g, x) (stood_stands ds' ss' w p t (refused 8 (get_or bodies m 0)) [] (head_of w t []) refl tt empty))))
       where
         empty : Stood w t [] ds' ss' (head_of w t [])
@@ -128,16 +129,15 @@ module _ (s los his tops counts bodies : List ℕ) (w t was m : ℕ) (ds ss : Li
         rw (en.answer, e, ne_eqb was m (λ z. nq (sym z)))
         (split (eqb m gap) (λ g. rw g) (λ g. rw g (split (right_body (sum_in s los his tops counts bodies m) (bytes_in s bodies m)) (λ x. rw x) (λ x. rw x)))))
 
-    pub entered-wrong : fault_of (body_of (block_in s los his tops counts bodies) was) ≡ none → under (length s) r.wrong ≡ fault_of (body_of (block_in s los his tops counts bodies) m)
+    pub entered-wrong : fault_of (body_of (block_in s los his tops counts bodies) was) ≡ none → told r.wrong ≡ fault_of (body_of (block_in s los his tops counts bodies) m)
     entered-wrong f =
-        let z : ltb (length s) (length s) ≡ false = le-ltb (length s) (length s) (omega arith) in
         split (eqb m was)
-        (λ e. let q : m ≡ was = eqb-true m was e in rw (en.answer, e, z) (sym (rw (sym q) at f)))
+        (λ e. let q : m ≡ was = eqb-true m was e in rw (en.answer, e) (sym (rw (sym q) at f)))
         (λ e. split (eqb m gap)
-        (λ g. rw (en.answer, e, g, z))
+        (λ g. rw (en.answer, e, g))
         (λ g. split (right_body (sum_in s los his tops counts bodies m) (bytes_in s bodies m))
-        (λ x. rw (en.answer, e, g, x, z))
-        (λ x. rw (en.answer, e, g, x, lt-ltb (get_or bodies m 0) (length s) (omega (arith, (ok (eqb-false m gap g)).whole))))))
+        (λ x. rw (en.answer, e, g, x))
+        (λ x. rw (en.answer, e, g, x))))
 
 -- ---- the first of several faults
 
@@ -151,15 +151,9 @@ earlier_assoc (some a) (some b) none = refl
 earlier_assoc (some a) (some b) (some c) =
     ap some (least-is (cond (ltb b a) b a) c ∙ rw (least-is a b) (sym (least-is a (cond (ltb c b) c b) ∙ rw (least-is b c) (omega arith))))
 
-under-lesser : (n a b : ℕ) → earlier (under n a) (under n b) ≡ under n (cond (ltb b a) b a)
-under-lesser n a b =
-    split (ltb a n)
-    (λ x. split (ltb b n)
-    (λ y. rw (x, y) (split (ltb b a) (λ e. rw (e, y)) (λ e. rw (e, x))))
-    (λ y. rw (x, y, le-ltb b a (omega (arith, ltb-true a n x, ltb-false b n y)), x)))
-    (λ x. rw x (split (ltb b n)
-    (λ y. rw (y, lt-ltb b a (omega (arith, ltb-false a n x, ltb-true b n y)), y))
-    (λ y. rw y (split (ltb b a) (λ e. rw (e, y)) (λ e. rw (e, x))))))
+-- the code's lesser of two offsets
+pub sooner-both : (a b m : ℕ) → m ≡ min a b → some m ≡ earlier (some a) (some b)
+sooner-both a b m e = ap some (e ∙ sym (least-is a b))
 
 both_none : (x y : Option ℕ) → earlier x y ≡ none → (x ≡ none) × (y ≡ none)
 both_none none y e = (refl, e)
@@ -176,7 +170,7 @@ fault-each B blocks (suc n) t u e l h =
 
 -- ---- all lists, one after another
 
-pub record Entering (n : ℕ) (s los his tops counts bodies weights was mets : List ℕ) (heads : List Head) (ds₀ ss₀ : List ℕ) (hs : List Head) (ds ss : List ℕ) (fresh wrong t : ℕ) : Type 0 where
+pub record Entering (n : ℕ) (s los his tops counts bodies weights was mets : List ℕ) (heads : List Head) (ds₀ ss₀ : List ℕ) (hs : List Head) (ds ss : List ℕ) (fresh : ℕ) (wrong : prelude.Option ℕ) (t : ℕ) : Type 0 where
   pub within : t ≤ n
   pub long : length hs ≡ n
   pub docids : length ds ≡ roomy
@@ -190,7 +184,7 @@ pub record Entering (n : ℕ) (s los his tops counts bodies weights was mets : L
   pub few : fresh ≤ t
   pub counted : new_from was mets n 0 ≡ fresh + new_from was mets (n - t) t
   pub first : fault_from (block_in s los his tops counts bodies) was n 0 ≡ none
-      → fault_from (block_in s los his tops counts bodies) mets n 0 ≡ earlier (under (length s) wrong) (fault_from (block_in s los his tops counts bodies) mets (n - t) t)
+      → fault_from (block_in s los his tops counts bodies) mets n 0 ≡ earlier (told wrong) (fault_from (block_in s los his tops counts bodies) mets (n - t) t)
 
 pub is-few : (a b : ℕ) → is_new a b ≤ 1
 is-few a b = split (eqb b gap) (λ e. rw e (omega arith)) (λ e. rw e (split (eqb a b) (λ f. rw f (omega arith)) (λ f. rw f (omega arith))))
@@ -200,7 +194,7 @@ module _ (s los his tops counts bodies weights was mets : List ℕ) (heads : Lis
   B = block_in s los his tops counts bodies
 
   pub entering_none : length heads ≡ max_terms → length ds₀ ≡ roomy → length ss₀ ≡ roomy
-      → Entering max_terms s los his tops counts bodies weights was mets heads ds₀ ss₀ heads ds₀ ss₀ 0 (length s) 0
+      → Entering max_terms s los his tops counts bodies weights was mets heads ds₀ ss₀ heads ds₀ ss₀ 0 prelude.None 0
   entering_none a b d = record {
     within = omega arith;
     long = a;
@@ -211,7 +205,7 @@ module _ (s los his tops counts bodies weights was mets : List ℕ) (heads : Lis
     space = refl;
     few = omega arith;
     counted = omega arith;
-    first = λ e. let z : ltb (length s) (length s) ≡ false = le-ltb (length s) (length s) (omega arith) in rw z;
+    first = λ e. refl;
   }
 
   entered-none : (t : ℕ) (x : Space) → entered_from s los his tops counts bodies weights was mets 0 t x ≡ x
@@ -224,11 +218,11 @@ module _ (s los his tops counts bodies weights was mets : List ℕ) (heads : Lis
   unfolding entered_from
   entered-turn n t hs ds ss ds' ss' r en = rw (en.answer, en.docids, en.scored)
 
-  pub entering_more : (n : ℕ) (hs : List Head) (ds ss : List ℕ) (fresh wrong t : ℕ) (ds' ss' : List ℕ) (r : Entry) (more less : ℕ) → n ≤ max_terms → t < n → Bytes s
+  pub entering_more : (n : ℕ) (hs : List Head) (ds ss : List ℕ) (fresh : ℕ) (wrong : prelude.Option ℕ) (t : ℕ) (ds' ss' : List ℕ) (r : Entry) (more : ℕ) (less : prelude.Option ℕ) → n ≤ max_terms → t < n → Bytes s
       → ((get_or mets t 0 ≡ gap → ⊥) → Loadable s los his tops counts bodies (get_or mets t 0))
       → Entering n s los his tops counts bodies weights was mets heads ds₀ ss₀ hs ds ss fresh wrong t
       → Enters s los his tops counts bodies (get_or weights t 0) t (get_or was t 0) (get_or mets t 0) (get_or hs t blank) ds ss ds' ss' r
-      → more ≡ fresh + r.fresh → less ≡ min wrong r.wrong
+      → more ≡ fresh + r.fresh → told less ≡ earlier (told wrong) (told r.wrong)
       → Entering n s los his tops counts bodies weights was mets heads ds₀ ss₀ (set hs t r.head) ds' ss' more less (t + 1)
   entering_more n hs ds ss fresh wrong t ds' ss' r more less nm l b ok w en mo le =
       let mine : t < max_terms = omega arith in
@@ -267,20 +261,20 @@ module _ (s los his tops counts bodies weights was mets : List ℕ) (heads : Lis
             omega (arith, w.counted);
         first = λ e.
             let f : fault_from B mets (n - t) t ≡ earlier (fault_of (body_of B met-t)) (fault_from B mets (n - (t + 1)) (t + 1)) = rw (left, next) in
-            let g : under (length s) r.wrong ≡ fault_of (body_of B met-t) =
+            let g : told r.wrong ≡ fault_of (body_of B met-t) =
             entered-wrong s los his tops counts bodies wt t was-t met-t ds ss b mine w.docids w.scored ok h ds' ss' r en (fault-each B was n 0 t e (omega arith) (omega arith)) in
             w.first e
-            ∙ ap (earlier (under (length s) wrong)) f
-            ∙ sym (earlier_assoc (under (length s) wrong) (fault_of (body_of B met-t)) (fault_from B mets (n - (t + 1)) (t + 1)))
-            ∙ ap {B = Option ℕ} (λ x. earlier (earlier (under (length s) wrong) x) (fault_from B mets (n - (t + 1)) (t + 1))) (sym g)
-            ∙ ap {B = Option ℕ} (λ x. earlier x (fault_from B mets (n - (t + 1)) (t + 1))) (under-lesser (length s) wrong r.wrong ∙ ap (under (length s)) (least-is wrong r.wrong ∙ sym le));
+            ∙ ap (earlier (told wrong)) f
+            ∙ sym (earlier_assoc (told wrong) (fault_of (body_of B met-t)) (fault_from B mets (n - (t + 1)) (t + 1)))
+            ∙ ap {B = Option ℕ} (λ x. earlier (earlier (told wrong) x) (fault_from B mets (n - (t + 1)) (t + 1))) (sym g)
+            ∙ ap {B = Option ℕ} (λ x. earlier x (fault_from B mets (n - (t + 1)) (t + 1))) (sym le);
       }
 
   earlier-none : (x : Option ℕ) → earlier x none ≡ x
   earlier-none none = refl
   earlier-none (some a) = refl
 
-  pub entering_done : (hs : List Head) (ds ss : List ℕ) (fresh wrong t : ℕ) → max_terms ≤ t
+  pub entering_done : (hs : List Head) (ds ss : List ℕ) (fresh : ℕ) (wrong : prelude.Option ℕ) (t : ℕ) → max_terms ≤ t
       → Entering max_terms s los his tops counts bodies weights was mets heads ds₀ ss₀ hs ds ss fresh wrong t
       → EntersAll s los his tops counts bodies weights was mets heads ds₀ ss₀ ds ss (record { heads = hs; fresh = fresh; wrong = wrong })
   entering_done hs ds ss fresh wrong t l w =
@@ -292,5 +286,5 @@ module _ (s los his tops counts bodies weights was mets : List ℕ) (heads : Lis
         space = sym (entered-none t (record { heads = hs; docids = ds; scored = ss })) ∙ (rw z at w.space);
         stand = λ d st. record { lists = w.long; docids = w.docids; scored = w.scored; each = λ u k. w.entered d st u (omega arith) };
         fresh = sym (w.counted ∙ omega arith);
-        wrong = λ f. sym (w.first f ∙ ap (earlier (under (length s) wrong)) no_fault ∙ earlier-none (under (length s) wrong));
+        wrong = λ f. sym (w.first f ∙ ap (earlier (told wrong)) no_fault ∙ earlier-none (told wrong));
       }

@@ -6,7 +6,7 @@ use mathlib.Core.List.{List, [], ◌∷◌, map}
 use native.Mathlib.Omega.{arith}
 use lib.Dec.{eqb}
 use lib.ListN.{length, get_or, length-map}
-use borrow.Author.Tests.{le-ltb, lt-ltb, eqb-false}
+use borrow.Author.Tests.{eqb-false}
 use Rattle.model.specs.Limits.{max_terms}
 use Rattle.model.specs.Post.{Post, docs}
 use Rattle.model.specs.Runs.{All, Asc, Bytes}
@@ -26,10 +26,11 @@ use Rattle.scan.specs.Run.{Bounds, Searched}
 use Rattle.scan.specs.declared.head.Head.{Head}
 use Rattle.scan.proofs.Heads.{All_at}
 use Rattle.opening.specs.Table.{gap, numbered, block_in, sum_in}
-use Rattle.opening.specs.Enter.{Loadable, bytes_in, body_of, Stands, AllStand, under, Enterable, EntersAll}
+use Rattle.opening.specs.Enter.{Loadable, bytes_in, body_of, Stands, AllStand, told, Enterable, EntersAll}
 use Rattle.opening.specs.Turn.{term_met, Openable, Opens}
 use Rattle.opening.proofs.Numbers.{numbered-all}
 use Rattle.opening.proofs.Standings.{rises-of}
+use Rattle.std.specs.Prelude as prelude
 
 -- ---- one list
 
@@ -102,7 +103,7 @@ module _ (s los his tops counts bodies : List ℕ) (b : Bytes s) where
 
   module _ (weights was mets : List ℕ) (heads : List Head) (ds ss ds' ss' : List ℕ) (first last k : ℕ) (kept : Kept)
       (en : Enterable s los his tops counts bodies weights was mets ds ss) (op : Openable s los his tops counts bodies weights was heads ds ss first last k kept)
-      (hs : List Head) (fresh wrong : ℕ) (al : EntersAll s los his tops counts bodies weights was mets heads ds ss ds' ss' (record { heads = hs; fresh = fresh; wrong = wrong })) where
+      (hs : List Head) (fresh : ℕ) (wrong : prelude.Option ℕ) (al : EntersAll s los his tops counts bodies weights was mets heads ds ss ds' ss' (record { heads = hs; fresh = fresh; wrong = wrong })) where
     stood : AllStand (block_in s los his tops counts bodies) weights ds' ss' mets first hs
     stood = al.stand first op.stand
 
@@ -122,22 +123,21 @@ module _ (s los his tops counts bodies : List ℕ) (b : Bytes s) where
           order = op.order;
         }
 
-    pub open-stopped : wrong < length s → Opens s los his tops counts bodies weights was mets heads ds ss ds' ss' first last k kept (record { heads = hs; kept = kept; fresh = fresh; wrong = wrong })
-    open-stopped l =
-        let z : under (length s) wrong ≡ some wrong = rw (lt-ltb wrong (length s) l) in
+    pub open-stopped : (o : ℕ) → wrong ≡ prelude.Some o → Opens s los his tops counts bodies weights was mets heads ds ss ds' ss' first last k kept (record { heads = hs; kept = kept; fresh = fresh; wrong = wrong })
+    open-stopped o l =
+        let z : told wrong ≡ some o = rw l in
         record {
           fresh = al.fresh;
           wrong = al.wrong op.right;
-          hits = λ e. absurd (some-none wrong (sym z ∙ e));
-          rows = λ e. absurd (some-none wrong (sym z ∙ e));
-          stopped = λ x. (refl, ap {B = List Head} (λ x. x.heads) al.space);
-          most = omega arith;
+          hits = λ e. absurd (some-none o (sym z ∙ e));
+          rows = λ e. absurd (some-none o (sym z ∙ e));
+          stopped = λ at x. (refl, ap {B = List Head} (λ x. x.heads) al.space);
           room = op.room;
           order = op.order;
-          stand = λ e. absurd (some-none wrong (sym z ∙ e));
+          stand = λ e. absurd (some-none o (sym z ∙ e));
           docids = ap {B = List ℕ} (λ x. x.docids) al.space;
           scored = ap {B = List ℕ} (λ x. x.scored) al.space;
-          moved = λ e. absurd (some-none wrong (sym z ∙ e));
+          moved = λ e. absurd (some-none o (sym z ∙ e));
         }
       where
         some-none : (a : ℕ) → some a ≡ none → ⊥
@@ -181,18 +181,15 @@ module _ (s los his tops counts bodies : List ℕ) (b : Bytes s) where
             own = subst (λ x. OwnPart x (get_or past i blank)) z own;
           }
 
-      pub open_done : length s ≤ wrong → Opens s los his tops counts bodies weights was mets heads ds ss ds' ss' first last k kept (record { heads = past; kept = best; fresh = fresh; wrong = length s })
+      pub open_done : wrong ≡ prelude.None → Opens s los his tops counts bodies weights was mets heads ds ss ds' ss' first last k kept (record { heads = past; kept = best; fresh = fresh; wrong = wrong })
       open_done l =
-          let x : under (length s) wrong ≡ none = rw (le-ltb wrong (length s) l) in
-          let y : under (length s) (length s) ≡ none = rw (le-ltb (length s) (length s) (omega arith)) in
           record {
             fresh = al.fresh;
-            wrong = y ∙ sym x ∙ al.wrong op.right;
+            wrong = al.wrong op.right;
             hits = λ e. sr.kept
                 ∙ ap (keeps k (kept_of kept)) (same-hits any_list first last (terms ds' ss' hs) (numbered (term_met (block_in s los his tops counts bodies) weights mets) max_terms 0) (omega (arith, op.below)) stand-alike open_asks.rising met-rises);
             rows = λ e. sr.rows;
-            stopped = λ x. absurd (omega arith);
-            most = omega arith;
+            stopped = λ at x. let z : prelude.None ≡ prelude.Some at = sym l ∙ x in let y : ◌≡◌ {A = ℕ} 0 1 = cc in absurd (omega arith);
             room = sr.room;
             order = sr.order;
             stand = λ e. record { lists = more; docids = stood.docids; scored = stood.scored; each = past_stands };

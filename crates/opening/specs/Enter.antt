@@ -1,5 +1,6 @@
 -- An interval entered: each list keeps its place in the block that it read already, or has the block that is met loaded. Assumes nothing.
-use Rattle.std.specs.Prelude.{ℕ, zero, suc, ◌+◌, ◌≤◌, ◌<◌, ◌≡◌, cond, List, [], ltb, eqb, length, get_or, set, drop}
+use Rattle.std.specs.Prelude.{ℕ, zero, suc, ◌+◌, ◌≤◌, ◌<◌, ◌≡◌, cond, List, [], eqb, length, get_or, set, drop}
+use Rattle.std.specs.Prelude as prelude
 use Rattle.std.proofs.Math.Option.{Option, none, some}
 use Rattle.std.proofs.lemmas.List.Edits.{sets}
 use Rattle.model.specs.Limits.{max_docid, per_block, max_terms}
@@ -44,14 +45,14 @@ abbrev pub new_run : (shelf los his tops counts bodies : List ℕ) (was m : ℕ)
 new_run shelf los his tops counts bodies was m =
     cond (eqb m was) [] (cond (eqb m gap) [] (body_run (sum_in shelf los his tops counts bodies m) (bytes_in shelf bodies m)))
 
--- the place is kept; it is at its end in a gap; a block that is new is loaded. A wrong body is told by the offset of its tag, the shelf's length tells of none
+-- the place is kept; it is at its end in a gap; a block that is new is loaded. A wrong body is told by the offset of its tag
 abbrev pub entry_of : (shelf los his tops counts bodies : List ℕ) (weight t was m : ℕ) → Head → Entry
 entry_of shelf los his tops counts bodies weight t was m h =
-    cond (eqb m was) (record { head = h; fresh = 0; wrong = length shelf })
-    (cond (eqb m gap) (record { head = head_of weight t []; fresh = 0; wrong = length shelf })
+    cond (eqb m was) (record { head = h; fresh = 0; wrong = prelude.None })
+    (cond (eqb m gap) (record { head = head_of weight t []; fresh = 0; wrong = prelude.None })
     (cond (right_body (sum_in shelf los his tops counts bodies m) (bytes_in shelf bodies m))
-    (record { head = head_of weight t (body_run (sum_in shelf los his tops counts bodies m) (bytes_in shelf bodies m)); fresh = 1; wrong = length shelf })
-    (record { head = head_of weight t []; fresh = 1; wrong = get_or bodies m 0 })))
+    (record { head = head_of weight t (body_run (sum_in shelf los his tops counts bodies m) (bytes_in shelf bodies m)); fresh = 1; wrong = prelude.None })
+    (record { head = head_of weight t []; fresh = 1; wrong = prelude.Some (get_or bodies m 0) })))
 
 pub record Enters (shelf los his tops counts bodies : List ℕ) (weight t was m : ℕ) (h : Head) (ds ss ds' ss' : List ℕ) (r : Entry) : Type 0 where
   pub answer : r ≡ entry_of shelf los his tops counts bodies weight t was m h
@@ -82,9 +83,10 @@ pub record AllStand (block : ℕ → Block) (weights ds ss blocks : List ℕ) (p
   pub scored : length ss ≡ roomy
   pub each : (t : ℕ) → t < max_terms → Stands ds ss (get_or weights t 0) (body_of block (get_or blocks t 0)) p t (get_or heads t blank)
 
--- an offset in the shelf, or that there is none
-abbrev pub under : (limit at : ℕ) → Option ℕ
-under limit at = cond (ltb at limit) (some at) none
+-- the code's answer: an offset, or that there is none
+abbrev pub told : prelude.Option ℕ → Option ℕ
+told (prelude.Some at) = some at
+told prelude.None = none
 
 -- the least offset of the wrong bodies among n blocks, from the t-th on
 abbrev pub fault_from : (ℕ → Block) → (blocks : List ℕ) → (n t : ℕ) → Option ℕ
@@ -132,4 +134,4 @@ pub record EntersAll (shelf los his tops counts bodies weights was mets : List �
       → AllStand (block_in shelf los his tops counts bodies) weights ds' ss' mets d r.heads
   pub fresh : r.fresh ≡ new_from was mets max_terms 0
   -- the wrong body that is named, where those read before were right
-  pub wrong : fault_from (block_in shelf los his tops counts bodies) was max_terms 0 ≡ none → under (length shelf) r.wrong ≡ fault_from (block_in shelf los his tops counts bodies) mets max_terms 0
+  pub wrong : fault_from (block_in shelf los his tops counts bodies) was max_terms 0 ≡ none → told r.wrong ≡ fault_from (block_in shelf los his tops counts bodies) mets max_terms 0

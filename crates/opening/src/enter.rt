@@ -4,7 +4,8 @@ ghost use Rattle.wire.specs.Field.{field_len, field_value};
 ghost use Rattle.scan.specs.Heads.{roomy};
 ghost use Rattle.scan.specs.Load.{head_of};
 ghost use Rattle.opening.specs.Table.{gap};
-ghost use Rattle.opening.specs.Enter.{Loadable, Enters, Enterable, EntersAll};
+ghost use Rattle.prune.specs.Prune.{earlier};
+ghost use Rattle.opening.specs.Enter.{Loadable, Enters, told, Enterable, EntersAll};
 
 use block::summary::Summary;
 use scan::head::Head;
@@ -33,12 +34,12 @@ pub fn ended(weight: u8, t: usize) -> Head
     }
 }
 
-// A list in an interval: its head, how many blocks were loaded, and the offset of a wrong body's tag; the shelf's length where none is wrong.
+// A list in an interval: its head, how many blocks were loaded, and the offset of its body's tag if that is wrong.
 #[derive(Drop)]
 pub struct Entry {
     pub head: Head,
     pub fresh: usize,
-    pub wrong: usize,
+    pub wrong: Option<usize>,
 }
 
 // List t, which read block `was`, in an interval that meets block `met`.
@@ -60,19 +61,18 @@ fn enter(
     requires { (t < 8) × ((met ≡ gap → ⊥) → Loadable shelf.now los.now his.now tops.now counts.now bodies.now met) × (length docs.old ≡ roomy) × (length scores.old ≡ roomy) }
     ensures { Enters shelf.now los.now his.now tops.now counts.now bodies.now weight t was met head docs.old scores.old docs.new scores.new result }
 {
-    let none = shelf.len();
     if met == was {
         return Entry {
             head,
             fresh: 0,
-            wrong: none,
+            wrong: None,
         };
     }
     if met == crate::meet::GAP {
         return Entry {
             head: ended(weight, t),
             fresh: 0,
-            wrong: none,
+            wrong: None,
         };
     }
     let at = bodies[met] as usize;
@@ -87,22 +87,32 @@ fn enter(
         Ok(h) => Entry {
             head: h,
             fresh: 1,
-            wrong: none,
+            wrong: None,
         },
         Err(_) => Entry {
             head: ended(weight, t),
             fresh: 1,
-            wrong: at,
+            wrong: Some(at),
         },
     }
 }
 
-// All lists in an interval: their heads, how many blocks were loaded, and the least offset of a wrong body's tag.
+// All lists in an interval: their heads, how many blocks were loaded, and the least offset of a wrong body's tag if any is wrong.
 #[derive(Drop)]
 pub struct Entrance {
     pub heads: [Head; 8],
     pub fresh: usize,
-    pub wrong: usize,
+    pub wrong: Option<usize>,
+}
+
+// The lesser of two offsets, if there is one.
+fn sooner(a: Option<usize>, b: Option<usize>) -> Option<usize>
+    ensures { told result ≡ earlier (told a) (told b) }
+{
+    match (a, b) {
+        (Some(x), Some(y)) => Some(x.min(y)),
+        _ => a.or(b),
+    }
 }
 
 // All lists in an interval that meets the blocks `mets`, where they read the blocks `was`.
@@ -125,7 +135,7 @@ pub(crate) fn enter_all(
 {
     let mut hs = heads;
     let mut fresh: usize = 0;
-    let mut wrong = shelf.len();
+    let mut wrong = None;
     for t in 0..8 {
         let e = enter(
             shelf, los, his, tops, counts, bodies, weights[t], t, was[t], mets[t], hs[t], docs,
@@ -133,7 +143,7 @@ pub(crate) fn enter_all(
         );
         hs[t] = e.head;
         fresh += e.fresh;
-        wrong = wrong.min(e.wrong);
+        wrong = sooner(wrong, e.wrong);
     }
     Entrance {
         heads: hs,

@@ -7,14 +7,14 @@ use rank::keep::Kept;
 use scan::head::Head;
 use scan::run::After;
 
-// Past an opened interval: where the lists stand, the hits kept, how many blocks were loaded, and the least offset of a wrong body's tag;
-// the shelf's length where none is wrong.
+// Past an opened interval: where the lists stand, the hits kept, how many blocks were loaded, and the least offset of a wrong body's tag
+// if any is wrong.
 #[derive(Drop)]
 pub struct Turn {
     pub heads: [Head; 8],
     pub kept: Kept,
     pub fresh: usize,
-    pub wrong: usize,
+    pub wrong: Option<usize>,
 }
 
 // All blocks that the interval meets are loaded and checked. Only where all are right are its documents scored.
@@ -39,7 +39,6 @@ pub fn open(
     requires { Enterable shelf.now los.now his.now tops.now counts.now bodies.now weights.now was.now mets.now docs.old scores.old × Openable shelf.now los.now his.now tops.now counts.now bodies.now weights.now was.now heads docs.old scores.old first last k kept }
     ensures { Opens shelf.now los.now his.now tops.now counts.now bodies.now weights.now was.now mets.now heads docs.old scores.old docs.new scores.new first last k kept result }
 {
-    let none = shelf.len();
     let Entrance {
         heads,
         fresh,
@@ -47,7 +46,7 @@ pub fn open(
     } = crate::enter::enter_all(
         shelf, los, his, tops, counts, bodies, weights, was, mets, heads, docs, scores,
     );
-    if wrong < none {
+    if wrong.is_some() {
         return Turn {
             heads,
             kept,
@@ -60,6 +59,6 @@ pub fn open(
         heads,
         kept,
         fresh,
-        wrong: none,
+        wrong,
     }
 }

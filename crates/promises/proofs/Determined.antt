@@ -55,7 +55,7 @@ use Rattle.opening.specs.Table.{block_in, lists_in}
 use Rattle.exhaustive.specs.Exhaustive.{Answers as Ranks}
 use Rattle.pruned.specs.Pruned.{Answer, BookIs, Answers}
 use Rattle.pruned.specs.declared.search.Pruned.{Pruned}
-use Rattle.pruned.specs.declared.stopped.Stopped.{Stopped}
+use Rattle.intervals.specs.declared.stopped.Stopped.{Stopped}
 
 -- what cannot be
 never : {C : Type 0} → ◌≡◌ {A = ℕ} 0 1 → C

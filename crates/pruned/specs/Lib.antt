@@ -1,3 +1,2 @@
 -- What the pruned ranker answers, and what the book's runs then hold, for every input.
-pub mod Stopped
 pub mod Pruned

@@ -13,7 +13,7 @@ use Rattle.prune.specs.Prune.{never, pruned, book, blocks_opened}
 use Rattle.exhaustive.specs.Lists.{listings_of}
 use Rattle.exhaustive.specs.Merge.{Mergeable}
 use Rattle.model.specs.Refusal.{number}
-use Rattle.pruned.specs.declared.stopped.Stopped.{Stopped}
+use Rattle.intervals.specs.declared.stopped.Stopped.{Stopped}
 use Rattle.intervals.specs.Blocks.{room_for}
 use Rattle.pruned.specs.declared.search.Pruned.{Pruned}
 

@@ -2,4 +2,3 @@
 #![tactic(auto)]
 
 pub mod search;
-pub mod stopped;

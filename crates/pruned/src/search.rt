@@ -4,7 +4,7 @@ ghost use Rattle.std.specs.Prelude.{length};
 ghost use Rattle.exhaustive.specs.Merge.{lists_from};
 ghost use Rattle.pruned.specs.Pruned.{Searchable, fitting, answer, searched, Answers};
 
-use crate::stopped::Stopped;
+use intervals::stopped::Stopped;
 use lookup::gather::Found;
 use model::refusal::Fault;
 use rank::keep::Kept;
@@ -40,23 +40,12 @@ fn over_found(
     let bodies = blocks.bodies;
     let booked = intervals::blocks::over_blocks(
         shelf, &ends, &los, &his, &tops, &counts, &bodies, &weights, k, firsts, ceilings, marks,
-    );
-    let run = booked.run;
-    let intervals = booked.intervals;
-    if intervals == 0 {
-        return Err(Stopped::from(Fault::Room.at(0)));
-    }
-    if run.wrong < shelf.len() {
-        return Err(Stopped {
-            refusal: Fault::Body.at(run.wrong),
-            intervals,
-        });
-    }
+    )?;
     Ok(Pruned {
-        intervals,
-        opened: run.opened,
+        intervals: booked.intervals,
+        opened: booked.run.opened,
         blocks: blocks.n,
-        kept: run.kept,
+        kept: booked.run.kept,
     })
 }
 

@@ -1,5 +1,5 @@
 -- A query's fields, by the tests that the code makes. Assumes nothing.
-use Prim.Native.Nat.{ℕ, zero, suc, ◌+◌, ◌*◌, ◌-◌, ◌≤◌, ◌<◌}
+use Prim.Native.Nat.{ℕ, zero, suc, ◌+◌, ◌*◌, ◌-◌, ◌/◌, ◌≤◌, ◌<◌}
 use native.Mathlib.Omega.{arith}
 use native.Mathlib.Numerals.{sub-one, add-one}
 use mathlib.Core.Path.{◌≡◌, refl, sym, ap, ◌∙◌}
@@ -122,6 +122,10 @@ fields_size s n e =
     let f : Err 0 ≡ Ok n = rw w at e in
     let z : ◌≡◌ {A = ℕ} 0 1 = cc in
     absurd (omega arith))
+
+-- so its size tells how many there are
+pub counted : (s : List ℕ) (n : ℕ) → field_count s ≡ Ok n → done (length s / 8) ≡ all_right (field_count s)
+counted s n e = let z : length s / 8 ≡ n = omega (arith, fields_size s n e) in rw (z, e)
 
 -- ---- the terms at their places
 

@@ -46,10 +46,7 @@ pub(crate) fn judge_terms(q: &[u8], k: u8, n: usize) -> Result<(), Refusal>
     requires { term_at n ≤ length q.now }
     ensures { outcome_of result ≡ judge (length q.now) (question k n q.now) }
 {
-    if k == 0 {
-        return Err(Fault::HitCount.at(0));
-    }
-    if model::MAX_K < k {
+    if k == 0 || model::MAX_K < k {
         return Err(Fault::HitCount.at(0));
     }
     if n == 0 {

@@ -26,16 +26,13 @@ pub(crate) fn count_fields(q: &[u8]) -> Result<usize, Refusal>
     if !is_field(q, 0, TAG_K, 1) {
         return Err(Fault::QueryField.at(0));
     }
-    let mut n = 0;
-    let mut at = 4;
-    while at < q.len() {
+    for at in (4..q.len()).step_by(8) {
         if !is_field(q, at, TAG_TERM, 5) {
             return Err(Fault::QueryField.at(at));
         }
-        at += 8;
-        n += 1;
     }
-    Ok(n)
+    // 4 bytes are the field of k, and 8 each term's.
+    Ok(q.len() / 8)
 }
 
 // The term of the term field with index `i`.

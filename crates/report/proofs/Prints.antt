@@ -1,36 +1,14 @@
--- What is printed of a search's answer, by its verdict. Assumes nothing.
-use Prim.Native.Nat.{ℕ, suc, ◌^◌, ◌≤◌, ◌<◌}
+-- What is printed of a search that is done is small. Assumes nothing.
+use Prim.Native.Nat.{ℕ, suc, ◌^◌, ◌<◌}
 use native.Mathlib.Omega.{arith}
-use mathlib.Core.Path.{◌≡◌, subst, sym}
 use mathlib.Core.List.{List, [], ◌∷◌}
-use lib.ListN.{length, get_or, length-take}
-use Rattle.model.specs.Outcome.{done}
+use lib.ListN.{get_or, length-take}
 use Rattle.model.specs.Post.{postings}
-use Rattle.model.specs.Runs.{All, Stored, Holds}
+use Rattle.model.specs.Runs.{All}
 use Rattle.model.proofs.Lists.{All_take}
-use Rattle.model.proofs.Storing.{stored-holds}
-use Rattle.lines.specs.Text.{refusal_line, text}
-use Rattle.lines.specs.Book.{Small, max_output}
-use Rattle.lines.proofs.Sizes.{refusal-short, text-short}
-use Rattle.report.specs.Report.{rows_of, told, Printed, Printable}
+use Rattle.lines.specs.Book.{Small}
+use Rattle.report.specs.Report.{rows_of, Printed}
 use Rattle.pruned.specs.declared.search.Pruned.{Pruned}
-use Rattle.exhaustive.specs.declared.all.Verdict.{Verdict}
-use Rattle.exhaustive.specs.declared.all.Verdict.TheVariants.{Done, Refused}
-
-module _ (v : Verdict) (r : Pruned) (fs cs ms l m : List ℕ) (q : ℕ) (room : max_output ≤ length l) where
-  pub printed_of : v ≡ Done → Printable v r fs cs ms → Printed r fs cs ms
-  printed_of e p = subst (λ (w : Verdict). Printable w r fs cs ms) e p
-
-  pub print-refused : (number offset : ℕ) → v ≡ Refused number offset
-      → Stored l m 0 q (refusal_line number offset) → Holds l (text (told v r fs cs ms)) m q
-  print-refused number offset e s =
-      subst (λ (w : Verdict). Holds l (text (told w r fs cs ms)) m q) (sym e)
-      (stored-holds (omega (arith, refusal-short number offset)) s)
-
-  pub print-done : v ≡ Done → Small (rows_of r fs cs ms) → Stored l m 0 q (text (done (rows_of r fs cs ms))) → Holds l (text (told v r fs cs ms)) m q
-  print-done e p s =
-      subst (λ (w : Verdict). Holds l (text (told w r fs cs ms)) m q) (sym e)
-      (stored-holds (omega (arith, text-short (rows_of r fs cs ms) p)) s)
 
 all-by : (xs : List ℕ) → ((i : ℕ) → get_or xs i 0 < 2 ^ 32) → All (λ n. n < 2 ^ 32) xs
 all-by [] f = tt

@@ -1,16 +1,16 @@
 -- What the search program prints for its input. "The program reads standard input: fields tagged 20 or 21, while whole, are the query; the rest is the
 -- shelf. It runs the pruned search." Assumes nothing.
-use Rattle.std.specs.Prelude.{ℕ, ◌≤◌, ◌≡◌, cond, List, map, ltb, length, take, drop}
+use Rattle.std.specs.Prelude.{ℕ, ◌≤◌, ◌≡◌, cond, List, map, ltb, length, take, drop, Result, Ok, Err}
 use Rattle.model.specs.Limits.{max_docid, max_k}
 use Rattle.model.specs.Outcome.{Outcome, refused, done, and_then}
+use Rattle.model.specs.Refusal.{number}
 use Rattle.rank.specs.Match.{any_list}
 use Rattle.rank.specs.Keep.{kept_of}
 use Rattle.prune.specs.Cut.{starts, ceiling_at, block_count}
 use Rattle.prune.specs.Prune.{never, pruned, book, blocks_opened}
-use Rattle.exhaustive.specs.declared.all.Verdict.{Verdict}
-use Rattle.exhaustive.specs.declared.all.Verdict.TheVariants.{Done, Refused}
 use Rattle.pruned.specs.Pruned.{Sought, sought}
 use Rattle.pruned.specs.declared.search.Pruned.{Pruned}
+use Rattle.intervals.specs.declared.stopped.Stopped.{Stopped}
 use Rattle.lines.specs.Text.{Shown, shown, text}
 use Rattle.lines.specs.Book.{Book, max_intervals, max_output}
 use Rattle.lines.specs.Split.{query_size}
@@ -54,10 +54,10 @@ pub record Room (fs cs ms out : List ℕ) : Type 0 where
 abbrev pub rows_of : Pruned → (fs cs ms : List ℕ) → Shown
 rows_of r fs cs ms = shown (kept_of r.kept) (take r.intervals fs) (take r.intervals cs) (take r.intervals ms) r.opened r.blocks
 
--- what a search has answered, by its verdict
-abbrev pub told : Verdict → Pruned → (fs cs ms : List ℕ) → Outcome Shown
-told (Refused number offset) r fs cs ms = refused number offset
-told Done r fs cs ms = done (rows_of r fs cs ms)
+-- what a search has answered
+abbrev pub told : Result Pruned Stopped → (fs cs ms : List ℕ) → Outcome Shown
+told (Err r) fs cs ms = refused (number r.refusal.fault) r.refusal.offset
+told (Ok r) fs cs ms = done (rows_of r fs cs ms)
 
 -- what printing asks of a search that is done
 pub record Printed (r : Pruned) (fs cs ms : List ℕ) : Type 0 where
@@ -68,6 +68,6 @@ pub record Printed (r : Pruned) (fs cs ms : List ℕ) : Type 0 where
   pub marks : r.intervals ≤ length ms
   pub book : Book (take r.intervals fs) (take r.intervals cs) (take r.intervals ms)
 
-abbrev pub Printable : Verdict → Pruned → (fs cs ms : List ℕ) → Type 0
-Printable (Refused number offset) r fs cs ms = Unit {0}
-Printable Done r fs cs ms = Printed r fs cs ms
+abbrev pub Printable : Result Pruned Stopped → (fs cs ms : List ℕ) → Type 0
+Printable (Err r) fs cs ms = Unit {0}
+Printable (Ok r) fs cs ms = Printed r fs cs ms

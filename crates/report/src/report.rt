@@ -1,14 +1,16 @@
 // The program's whole output for its input.
 ghost use Rattle.std.specs.Prelude.{◌≤◌, length};
+ghost use Rattle.std.specs.Option.{is_some};
 ghost use Rattle.model.specs.Runs.{Holds};
 ghost use Rattle.lines.specs.Text.{codes, text};
 ghost use Rattle.lines.specs.Book.{max_output};
-ghost use Rattle.lines.specs.Said.{Speaks};
+ghost use Rattle.lines.specs.Said.{Speaks, input_of};
 ghost use Rattle.report.specs.Report.{search_shown, reported, told, Printable, Room};
 
-use exhaustive::all::Verdict;
-use lines::said::{Said, Start};
+use lines::said::Said;
+use model::refusal::Fault;
 use pruned::search::Pruned;
+use intervals::stopped::Stopped;
 
 // The longest input that is searched.
 const MAX_INPUT: usize = 65536;
@@ -16,32 +18,29 @@ const MAX_INPUT: usize = 65536;
 // What a search answered, with its book: the line of a refusal, or the lines of its hits, its intervals and its blocks.
 fn print<'a>(
     out: &mut [u8],
-    found: Pruned,
+    found: Result<Pruned, Stopped>,
     firsts: &'a [u32],
     ceilings: &'a [u32],
     marks: &'a [u8],
 ) -> usize
-    requires { (max_output ≤ length out.old) × Printable found.verdict found firsts.now ceilings.now marks.now }
-    ensures { Holds out.old (text (told found.verdict found firsts.now ceilings.now marks.now)) out.new result }
+    requires { (max_output ≤ length out.old) × Printable found firsts.now ceilings.now marks.now }
+    ensures { Holds out.old (text (told found firsts.now ceilings.now marks.now)) out.new result }
 {
-    let verdict = found.verdict;
-    match verdict {
-        Verdict::Refused(number, offset) => lines::line::put_refusal(out, 0, number, offset),
-        Verdict::Done => {
-            let rows = found.intervals;
-            let kept = found.kept;
-            let docids = kept.docids;
-            let scores = kept.scores;
+    match found {
+        Err(stopped) => lines::line::put_refusal(out, 0, stopped.refusal),
+        Ok(done) => {
+            let rows = done.intervals;
+            let kept = done.kept;
             lines::rows::put_shown(
                 out,
-                &docids,
-                &scores,
+                &kept.docids,
+                &kept.scores,
                 kept.n,
                 &firsts[0..rows],
                 &ceilings[0..rows],
                 &marks[0..rows],
-                found.opened,
-                found.blocks,
+                done.opened,
+                done.blocks,
             )
         }
     }
@@ -69,7 +68,7 @@ fn report(input: &[u8], out: &mut [u8]) -> usize
     ensures { Holds out.old (reported input.now) out.new result }
 {
     if MAX_INPUT < input.len() {
-        return lines::line::put_refusal(out, 0, 13, 0);
+        return lines::line::put_refusal(out, 0, Fault::Input.at(0));
     }
     let n = lines::split::split(input);
     let mut firsts = [0u32; 1025];
@@ -85,16 +84,16 @@ fn report(input: &[u8], out: &mut [u8]) -> usize
     )
 }
 
-// What the program says: `read` tells whether its input could be read. Its answer stands at the front of `out`, and what goes to standard error at the
-// front of `err`.
-pub fn respond(read: bool, input: &[u8], out: &mut [u8], err: &mut [u8]) -> Said
-    ensures { Speaks (codes "search") read (reported input.now) out.old err.old out.new err.new result }
+// What the program says: to an input, or to none where it could not be read. Its answer stands at the front of `out`, and what goes to standard error at
+// the front of `err`.
+pub fn respond(input: Option<&[u8]>, out: &mut [u8], err: &mut [u8]) -> Said
+    ensures { Speaks (codes "search") (is_some input.entry) (reported (input_of input.entry)) out.old err.old out.new err.new result }
 {
-    match lines::said::begin(b"search", read, out.len(), err) {
-        Start::Stop(n) => Said { out: 0, err: n },
-        Start::Answer => Said {
-            out: report(input, out),
+    match lines::said::begin(b"search", input, out.len(), err) {
+        Ok(bytes) => Said {
+            out: report(bytes, out),
             err: 0,
         },
+        Err(n) => Said { out: 0, err: n },
     }
 }

@@ -50,19 +50,19 @@ bounds-marks-i c =
 pub overflow_add-i : goal.overflow_add-i
 overflow_add-i c = omega (arith, c.loop-i-test.true, c.requires.few)
 
-pub shape_of-marks-then-wrong-none : goal.shape_of-marks-then-wrong-none
-shape_of-marks-then-wrong-none c =
+pub shape_of-marks-in-Some : goal.shape_of-marks-in-Some
+shape_of-marks-in-Some c =
     let l = c.loop-i in
     omega (arith, c.fill.ensures.len, length-set l.marks l.i 2, l.invariant.0.same, skip_long _ _ _ _ _ _ _ c.skip_shut-i.ensures)
 
-pub returns-then-wrong-none : goal.returns-then-wrong-none
-returns-then-wrong-none c =
+pub returns-in-Some : goal.returns-in-Some
+returns-in-Some c =
     let ok = c.requires in
     let l = c.loop-i in
     let t = c.loop-i-test.true in
     let n = length c.args.starts.now - (l.i + 1) in
     let rest = marks_filled (set l.marks l.i 2) c.fill.new.self (l.i + 1) n 3 (omega (arith, length-set l.marks l.i 2, l.invariant.0.wide, l.invariant.0.same)) (c.fill.ensures.after (λ y e. e)) in
-    past_stop _ _ _ _ _ _ _ _ _ _ _ _ ok _ _ _ _ _ _ _ _ _ _ l.invariant.0 t _ _ c.meet_all.ensures (l.invariant.1 t) _ c.last_of-last.ensures _ _ _ c.open-turn.ensures _ _ _ c.new.ensures c.if-wrong-none.true (skip_past _ _ _ _ _ _ _ c.skip_shut-i.ensures) rest
+    past_stop _ _ _ _ _ _ _ _ _ _ _ _ ok _ _ _ _ _ _ _ _ _ _ l.invariant.0 t _ _ c.meet_all.ensures (l.invariant.1 t) _ c.last_of-last.ensures _ _ _ c.open-turn.ensures _ _ c.in-Some.at c.in-Some.is (skip_past _ _ _ _ _ _ _ c.skip_shut-i.ensures) rest
 
 pub overflow_add-opened : goal.overflow_add-opened
 overflow_add-opened c =
@@ -93,7 +93,7 @@ loop-i-preserved c =
     let ok = c.requires in
     let l = c.loop-i in
     let t = c.loop-i-test.true in
-    let o = past_open _ _ _ _ _ _ _ _ _ _ _ _ ok _ _ _ _ _ _ _ _ _ _ l.invariant.0 t _ _ c.meet_all.ensures (l.invariant.1 t) _ c.last_of-last.ensures _ _ _ c.open-turn.ensures c.if-wrong-none.false in
+    let o = past_open _ _ _ _ _ _ _ _ _ _ _ _ ok _ _ _ _ _ _ _ _ _ _ l.invariant.0 t _ _ c.meet_all.ensures (l.invariant.1 t) _ c.last_of-last.ensures _ _ _ c.open-turn.ensures c.in_default.is in
     past_skip _ _ _ _ _ _ _ _ _ _ _ _ ok _ _ _ _ _ _ _ _ _ _ o _ _ _ c.kth_of-kth.ensures c.skip_shut-i-in-loop-i.ensures
 
 pub shape_of-marks : goal.shape_of-marks

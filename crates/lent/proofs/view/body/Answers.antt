@@ -1,6 +1,13 @@
 -- `lent::view::body` meets its contract: what is shown stands within the shelf, so its part may be taken. Assumes nothing.
-use Rattle.lent.proofs.Parts.{body-inside}
+use mathlib.Core.Path.{sym}
+use Rattle.lent.proofs.Parts.{span-inside}
 use Rattle.lent.proofs.view.body.Goals as goal
 
-pub part-bytes-requires : goal.part-bytes-requires
-part-bytes-requires c = rw c.body_shown-shown.ensures (body-inside c.args.v.shelf.now c.args.v.place c.args.j)
+pub slice_bounds-bytes-count : goal.slice_bounds-bytes-count
+slice_bounds-bytes-count c = (span-inside _ _ _ _ (sym c.in_ok-at.ensures)).0
+
+pub slice_bounds-bytes-start : goal.slice_bounds-bytes-start
+slice_bounds-bytes-start c = (span-inside _ _ _ _ (sym c.in_ok-at.ensures)).0
+
+pub slice_bounds-bytes-end : goal.slice_bounds-bytes-end
+slice_bounds-bytes-end c = (span-inside _ _ _ _ (sym c.in_ok-at.ensures)).1

@@ -2,22 +2,17 @@
 use native.Mathlib.Omega.{arith}
 use Rattle.model.proofs.Storing.{stored-append, stored_as}
 use Rattle.lines.proofs.Beginnings.{small-output, small-error, room_enough, begun_silent, begun_answer, begun_unread, unread-parts}
+use Rattle.lines.proofs.said.begin.Goals.{then-room-lt-MAX_OUTPUT-via-then-room-lt-MAX_OUTPUT, then-room-lt-MAX_OUTPUT-via-else-room-lt-MAX_OUTPUT+then-err-name}
 use Rattle.lines.proofs.said.begin.Goals as goal
 
 pub returns-then-room-lt-MAX_OUTPUT : goal.returns-then-room-lt-MAX_OUTPUT
 returns-then-room-lt-MAX_OUTPUT c =
     let a = c.args in
-    begun_silent a.name.now a.room a.err.now a.err.now a.input (small-output _ _ _ (omega arith))
-
-pub returns-then-err-lt35 : goal.returns-then-err-lt35
-returns-then-err-lt35 c =
-    let a = c.args in
-    begun_silent a.name.now a.room a.err.now a.err.now a.input (small-error _ _ _ (omega arith))
-
-pub returns-then-err-name : goal.returns-then-err-name
-returns-then-err-name c =
-    let a = c.args in
-    begun_silent a.name.now a.room a.err.now a.err.now a.input (small-error _ _ _ (omega arith))
+    begun_silent a.name.now a.room a.err.now a.err.now a.input
+    (elim c.then-room-lt-MAX_OUTPUT.branch [
+      | then-room-lt-MAX_OUTPUT-via-then-room-lt-MAX_OUTPUT w ↦ small-output _ _ _ (omega (arith, w.if-room-lt-MAX_OUTPUT.true))
+      | then-room-lt-MAX_OUTPUT-via-else-room-lt-MAX_OUTPUT+then-err-name w ↦ small-error _ _ _ (omega (arith, w.if-err-name.true))
+    ])
 
 pub returns-in-Some : goal.returns-in-Some
 returns-in-Some c =

@@ -26,7 +26,7 @@ overflow_add-fresh c = omega (arith, enter-few _ _ _ _ _ _ _ _ _ _ _ _ _ _ _ _ c
 pub loop-t-preserved : goal.loop-t-preserved
 loop-t-preserved c =
     let s = c.loop-t in
-    entering_more _ _ _ _ _ _ _ _ _ _ _ _ _ _ _ _ _ _ _ _ _ _ _ _ (omega arith) (omega arith) (λ i. omega (arith, c.shared_slice_known-1.given i)) (c.requires.each s.t (omega arith)) s.invariant c.enter-e.ensures refl c.min-wrong.ensures
+    entering_more _ _ _ _ _ _ _ _ _ _ _ _ _ _ _ _ _ _ _ _ _ _ _ _ (omega arith) (omega arith) (λ i. omega (arith, c.shared_slice_known-1.given i)) (c.requires.each s.t (omega arith)) s.invariant c.enter-e.ensures refl c.sooner-wrong.ensures
 
 pub returns : goal.returns
 returns c = entering_done _ _ _ _ _ _ _ _ _ _ _ _ _ _ _ _ _ _ (omega arith) c.loop-t.invariant

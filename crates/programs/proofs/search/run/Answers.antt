@@ -1,6 +1,7 @@
 -- What is said lies within its buffers. Assumes nothing.
-use Rattle.std.proofs.Common.{ℕ, ◌≡◌, sym, length, replicate}
+use Rattle.std.proofs.Common.{ℕ, ◌≡◌, sym, subst, length, replicate}
 use Rattle.std.proofs.lemmas.List.{length-replicate}
+use Rattle.console.specs.Calls.{Read}
 use Rattle.lines.proofs.Speaking.{output-fits, error-fits}
 use Rattle.programs.proofs.search.run.Goals as goal
 
@@ -11,8 +12,8 @@ zeros n = sym (length-replicate n 0)
 pub slice_bounds-read_whole-end : goal.slice_bounds-read_whole-end
 slice_bounds-read_whole-end g c = zeros 65537
 
-pub slice_bounds-respond-end : goal.slice_bounds-respond-end
-slice_bounds-respond-end g c = c.read_whole-got.ensures.within
+pub slice_bounds-read-end : goal.slice_bounds-read-end
+slice_bounds-read-end g c = (subst (Read c.read_whole.new.buf) c.in-Some.is c.read_whole.ensures).within
 
 pub slice_bounds-say-end : goal.slice_bounds-say-end
 slice_bounds-say-end g c = output-fits _ _ _ _ _ _ c.respond-said.ensures

@@ -4,17 +4,17 @@ use lib.ListN.{length}
 use Rattle.model.specs.Refusal.{number}
 use Rattle.model.proofs.Refusals.{refused_up}
 use Rattle.query.proofs.Judging.{judge_no_k, judge_large_k, judge_no_term, judge_many_terms, judge-weight, judge_repeat}
+use Rattle.query.proofs.faults.judge_terms.Goals.{then-k-eq0-via-then-k-eq0, then-k-eq0-via-else-k-eq0+then-k-gt-MAX_K}
 use Rattle.query.proofs.faults.judge_terms.Goals as goal
 
 pub returns-then-k-eq0 : goal.returns-then-k-eq0
 returns-then-k-eq0 c =
     let a = c.args in
-    rw c.at.ensures (sym (judge_no_k (length a.q.now) a.k a.n a.q.now c.if-k-eq0.true))
-
-pub returns-then-k-gt-MAX_K : goal.returns-then-k-gt-MAX_K
-returns-then-k-gt-MAX_K c =
-    let a = c.args in
-    rw c.at-then-k-gt-MAX_K.ensures (sym (judge_large_k (length a.q.now) a.k a.n a.q.now c.if-k-eq0.false c.if-k-gt-MAX_K.true))
+    rw c.at.ensures
+    (elim c.then-k-eq0.branch [
+      | then-k-eq0-via-then-k-eq0 w ↦ sym (judge_no_k (length a.q.now) a.k a.n a.q.now w.if-k-eq0.true)
+      | then-k-eq0-via-else-k-eq0+then-k-gt-MAX_K w ↦ sym (judge_large_k (length a.q.now) a.k a.n a.q.now w.if-k-eq0.false w.if-k-gt-MAX_K.true)
+    ])
 
 pub returns-then-n-eq0 : goal.returns-then-n-eq0
 returns-then-n-eq0 c =

@@ -1,11 +1,7 @@
 -- `query::fields::count_fields` meets its contract. The invariant: the count of all goes on from the fields that were passed. Assumes nothing.
-use Prim.Native.Nat.{◌-◌}
-use lib.ListN.{length}
+use Prim.Native.Nat.{ℕ}
 use Rattle.query.proofs.Parts.{Counting}
 use Rattle.query.proofs.fields.count_fields.Given as goal
 
 abbrev pub invariant-loop-at : goal.invariant-loop-at
-invariant-loop-at l = Counting l.q l.n l.at
-
-abbrev pub decreases-loop-at : goal.decreases-loop-at
-decreases-loop-at l = length l.q - l.at
+invariant-loop-at l = (n : ℕ) × Counting l.q n l.at

@@ -6,10 +6,10 @@ use Rattle.report.proofs.Reports.{too_long, searches}
 use Rattle.report.proofs.report.report.Goals as goal
 
 pub put_refusal-requires : goal.put_refusal-requires
-put_refusal-requires c = omega (arith, c.requires, refusal-short 13 0)
+put_refusal-requires c = rw c.at.ensures (omega (arith, c.requires, refusal-short 13 0))
 
 pub returns-then-input-gt-MAX_INPUT : goal.returns-then-input-gt-MAX_INPUT
-returns-then-input-gt-MAX_INPUT c = let a = c.args in too_long a.input.now a.out.now c.put_refusal.new.out c.put_refusal.result c.if-input-gt-MAX_INPUT.true c.requires c.put_refusal.ensures
+returns-then-input-gt-MAX_INPUT c = let a = c.args in too_long a.input.now a.out.now c.put_refusal.new.out c.put_refusal.result c.if-input-gt-MAX_INPUT.true c.requires (rw c.at.ensures at c.put_refusal.ensures)
 
 pub slice_bounds-show-end : goal.slice_bounds-show-end
 slice_bounds-show-end c = omega (arith, c.split-n.ensures, query-within c.args.input.now)

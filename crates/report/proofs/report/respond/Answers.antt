@@ -1,8 +1,7 @@
 -- `report::report::respond` meets its contract: it stops as it began, or it answers. Assumes nothing.
-use mathlib.Core.Path.{◌≡◌}
 use Rattle.lines.specs.Text.{codes}
-use Rattle.lines.specs.declared.said.Start.TheVariants.{Stop, Answer}
-use Rattle.lines.proofs.Speaking.{speaks_stop, speaks_answer, answer-room}
+use Rattle.lines.specs.Said.{input_of}
+use Rattle.lines.proofs.Speaking.{speaks_stop, speaks_answer, answer-input, answer-room}
 use Rattle.report.specs.Report.{reported}
 use Rattle.report.proofs.report.respond.Goals as goal
 
@@ -10,20 +9,19 @@ pub report-requires : goal.report-requires
 report-requires c =
     let a = c.args in
     let b = c.begin in
-    let e : b.result ≡ Answer = cc in
-    answer-room (codes "search") (reported a.input.now) a.out.now a.err.now b.new.err a.read b.result b.ensures e
+    answer-room (codes "search") (reported (input_of a.input)) a.out.now a.err.now b.new.err a.input b.result b.ensures c.in-Ok.bytes c.in-Ok.is
 
-pub returns-in-Stop : goal.returns-in-Stop
-returns-in-Stop c =
+pub returns-in-Err : goal.returns-in-Err
+returns-in-Err c =
     let a = c.args in
     let b = c.begin in
-    let e : b.result ≡ Stop c.in-Stop.n = cc in
-    speaks_stop (codes "search") (reported a.input.now) a.out.now a.err.now b.new.err a.read b.result b.ensures c.in-Stop.n e
+    speaks_stop (codes "search") (reported (input_of a.input)) a.out.now a.err.now b.new.err a.input b.result b.ensures c.in-Err.n c.in-Err.is
 
-pub returns-in-Answer : goal.returns-in-Answer
-returns-in-Answer c =
+pub returns-in-Ok : goal.returns-in-Ok
+returns-in-Ok c =
     let a = c.args in
     let b = c.begin in
-    let e : b.result ≡ Answer = cc in
-    speaks_answer (codes "search") (reported a.input.now) a.out.now a.err.now b.new.err a.read b.result b.ensures
-    c.report.new.out c.report.result e c.report.ensures
+    let x = c.in-Ok.bytes in
+    let given = answer-input (codes "search") (reported (input_of a.input)) a.out.now a.err.now b.new.err a.input b.result b.ensures x c.in-Ok.is in
+    speaks_answer (codes "search") (reported (input_of a.input)) a.out.now a.err.now b.new.err a.input b.result b.ensures
+    x c.report.new.out c.report.result c.in-Ok.is (rw given c.report.ensures)

@@ -12,8 +12,8 @@ print-requires c =
     let found = c.search-found in
     let a = c.args in (
       omega (arith, c.requires.output),
-      finds_printable a.firsts.now a.ceilings.now a.marks.now found.new.firsts found.new.ceilings found.new.marks found.result
-          (lent a.query.now a.shelf.now)
+      finds_printable a.firsts.now a.ceilings.now a.marks.now found.new.firsts found.new.ceilings found.new.marks (lent a.query.now a.shelf.now)
+          found.result
           (asked _ _ _ _ _ _ _ _ _ c.requires.firsts c.requires.ceilings c.requires.marks found.ensures) (omega (arith, c.requires.firsts)),
     )
 
@@ -22,7 +22,7 @@ returns c =
     let found = c.search-found in
     let a = c.args in
     subst (λ (o : Outcome Shown). Holds a.out.now (text o) c.print.new.out c.print.result)
-    (finds_told a.firsts.now a.ceilings.now a.marks.now found.new.firsts found.new.ceilings found.new.marks found.result
-    (lent a.query.now a.shelf.now)
+    (finds_told a.firsts.now a.ceilings.now a.marks.now found.new.firsts found.new.ceilings found.new.marks (lent a.query.now a.shelf.now)
+    found.result
     (asked _ _ _ _ _ _ _ _ _ c.requires.firsts c.requires.ceilings c.requires.marks found.ensures) ∙ shown-lent a.query.now a.shelf.now)
     c.print.ensures

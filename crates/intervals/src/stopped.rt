@@ -11,7 +11,7 @@ pub struct Stopped {
 // Before the search nothing is in the book.
 impl From<Refusal> for Stopped {
     ghost use Rattle.std.specs.Prelude.{◌≡◌};
-    ghost use Rattle.pruned.specs.Stopped.{early};
+    ghost use Rattle.intervals.specs.Stopped.{early};
 
     ghost from_gives = { λ r s. s ≡ early r };
 
