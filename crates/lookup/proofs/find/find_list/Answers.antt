@@ -39,6 +39,7 @@ returns-in_err-list c =
     ∙ sym (l.invariant ∙ rw (walk-fault s l.walk (number r.fault) r.offset c.in_err-list.ensures))
 
 -- `ok_or` answers for what is known
+
 answered : (known : Option Place) (x : Result Place Refusal) → x ≡ ok_or known (refusal fault.Absent 0) → outcome_of x ≡ or_absent known
 answered (Some p) x e = rw e
 answered None x e = rw e
