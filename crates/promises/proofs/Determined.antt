@@ -131,23 +131,21 @@ next_one s x None None next next' y z = (refl, y.2 ∙ sym z.2)
 
 -- ---- `shelf::walk::Walk::next`
 
--- what is answered; and the walk past it where a list is found
-pub walk-one : (found : WalkStep) (r q : Result (Option Place) Refusal) (w v : Walk) → Walks found r w → Walks found q v → (r ≡ q) × ((p : Place) → r ≡ Ok (Some p) → w ≡ v)
-walk-one found (Ok (Some x)) (Ok (Some y)) w v a b =
-    let e : step.List x w ≡ step.List y v = sym a ∙ b in
+pub walk-one : (found : WalkStep) (w : Walk) (r q : Result (Option Place) Refusal) (next next' : Walk) → Walks found w r next → Walks found w q next' → (r ≡ q) × (next ≡ next')
+walk-one found w (Ok (Some x)) (Ok (Some y)) next next' a b =
+    let e : step.List x next ≡ step.List y next' = sym a ∙ b in
     let places : x ≡ y = cc in
-    let walks : w ≡ v = cc in
-    (ap (λ (p : Place). Ok (Some p)) places, λ p h. walks)
-walk-one found (Ok (Some x)) (Ok None) w v a b = never (cc)
-walk-one found (Ok (Some x)) (Err q) w v a b = never (cc)
-walk-one found (Ok None) (Ok (Some y)) w v a b = never (cc)
-walk-one found (Ok None) (Ok None) w v a b = (refl, λ p h. never (cc))
-walk-one found (Ok None) (Err q) w v a b = never (cc)
-walk-one found (Err r) (Ok (Some y)) w v a b = never (cc)
-walk-one found (Err r) (Ok None) w v a b = never (cc)
-walk-one found (Err r) (Err q) w v a b =
+    (ap (λ (p : Place). Ok (Some p)) places, cc)
+walk-one found w (Ok (Some x)) (Ok None) next next' a (b, m) = never (cc)
+walk-one found w (Ok (Some x)) (Err q) next next' a (b, m) = never (cc)
+walk-one found w (Ok None) (Ok (Some y)) next next' (a, n) b = never (cc)
+walk-one found w (Ok None) (Ok None) next next' (a, n) (b, m) = (refl, n ∙ sym m)
+walk-one found w (Ok None) (Err q) next next' (a, n) (b, m) = never (cc)
+walk-one found w (Err r) (Ok (Some y)) next next' (a, n) b = never (cc)
+walk-one found w (Err r) (Ok None) next next' (a, n) (b, m) = never (cc)
+walk-one found w (Err r) (Err q) next next' (a, n) (b, m) =
     let e : step.Fault (number r.fault) r.offset ≡ step.Fault (number q.fault) q.offset = sym a ∙ b in
-    (ap Err (refusal-one r q (cc) (cc)), λ p h. never (cc))
+    (ap Err (refusal-one r q (cc) (cc)), n ∙ sym m)
 
 -- ---- `rank::keep::offer_in`
 

@@ -25,10 +25,10 @@ returns-in_err-list c =
     let a = c.args in
     let l = c.loop-list in
     let p = err_from_is_err_and c.from_residual.result c.from_residual.ensures.1 in
-    rw (p.1, p.2) (noting_fault a.s.now a.terms a.n l.ats l.counts l.walk l.invariant c.in_err-list.field-0.0 c.in_err-list.ensures)
+    rw (p.1, p.2) (noting_fault a.s.now a.terms a.n l.ats l.counts l.walk l.invariant c.in_err-list.field-0.0 c.in_err-list.ensures.0)
 
 pub returns : goal.returns
 returns c =
     let a = c.args in
     let l = c.loop-list in
-    noting_end a.s.now a.terms a.n l.ats l.counts l.walk l.invariant (rw c.in_default.is at c.in_ok-list.ensures)
+    noting_end a.s.now a.terms a.n l.ats l.counts l.walk l.invariant (rw c.in_default.is at c.in_ok-list.ensures).0
