@@ -20,7 +20,8 @@ pub struct Cursor {
     pub strip: bool,
 }
 
-// What a cursor finds: a posting (docid, score) and the cursor past it; the end; or a fault.
+// What a cursor finds: a posting (docid, score) and the cursor past it; the end; or a fault. No `Result` of an `Option`: each loop over a body has
+// a branch of its own for all three.
 #[derive(Drop)]
 pub enum Step {
     Posting(u32, u16, Cursor),
@@ -79,9 +80,9 @@ fn at_posting(c: Cursor, at: usize, doc: u32) -> Cursor
     ensures { result ≡ moved c at doc }
 {
     Cursor {
-        at: at,
+        at,
         points: c.points,
-        doc: doc,
+        doc,
         greatest: c.greatest,
         left: c.left - 1,
         first: false,
@@ -113,8 +114,8 @@ fn past_score(c: Cursor, score: u16, at: usize, points: usize) -> Step
         c.doc,
         score,
         Cursor {
-            at: at,
-            points: points,
+            at,
+            points,
             doc: c.doc,
             greatest: c.greatest,
             left: c.left,

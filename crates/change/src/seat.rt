@@ -7,7 +7,7 @@ ghost use Rattle.change.specs.Seat.{Sounds, seat_of, Fills, Held, strip_by, Stoo
 
 use shelf::walk::Place;
 
-// The list itself; or the place where it would begin.
+// The list itself; or the place where it would begin. No `Option` or `Result`: both carry a place, and neither is a failure.
 #[derive(Clone, Copy)]
 pub enum Seat {
     Taken(Place),

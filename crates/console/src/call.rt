@@ -6,7 +6,7 @@ use std::io;
 use std::io::ErrorKind;
 use std::ops::ControlFlow;
 
-// Bytes were moved; there is no more; a signal interrupted the call before it moved a byte; it failed.
+// Bytes were moved; there is no more; a signal interrupted the call before it moved a byte; it failed. Four outcomes, each with a branch of its own.
 #[derive(Drop)]
 pub enum Call {
     Moved(usize),

@@ -81,6 +81,7 @@ pub(crate) fn over_intervals(
     let mut kept = Kept::new();
     let mut opened: usize = 0;
     let mut i = crate::book::skip_shut(ceilings, n, 0, 0, marks);
+    // No `for`: the shut intervals behind one are passed over in one step.
     while i < n {
         let first = starts[i];
         let last = last_of(starts, i);

@@ -85,7 +85,7 @@ fn lay_list<'a>(
     }
     let sum = at + 8;
     let mut r = Reading {
-        sum: sum,
+        sum,
         body: sum + 12 * (count as usize),
         left: count,
     };

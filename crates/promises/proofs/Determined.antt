@@ -13,7 +13,7 @@ use borrow.Author.Tests.{ltb-true, ltb-false}
 use Rattle.model.specs.Limits.{max_k, max_terms, max_docid}
 use Rattle.model.specs.Outcome.{Outcome, refused, done}
 use Rattle.model.specs.Post.{Post, post, postings}
-use Rattle.model.specs.Refusal.{number, outcome_of}
+use Rattle.model.specs.Refusal.{number, refusal, outcome_of}
 use Rattle.model.specs.declared.refusal.Fault.{Fault}
 use Rattle.model.specs.declared.refusal.Fault.TheVariants as fault
 use Rattle.model.specs.declared.refusal.Refusal.{Refusal}
@@ -43,11 +43,11 @@ use Rattle.scan.specs.Run.{Ran, Searched}
 use Rattle.scan.specs.declared.head.Head.{Head}
 use Rattle.scan.specs.declared.run.After.{After}
 use Rattle.opening.specs.Meet.{Reaches, met_at, AllMoved}
-use Rattle.opening.specs.Enter.{under}
+use Rattle.opening.specs.Enter.{told}
 use Rattle.opening.specs.Turn.{Opens}
 use Rattle.opening.specs.declared.turn.Turn.{Turn}
-use Rattle.intervals.specs.Run.{found_by, Runs}
-use Rattle.intervals.specs.Blocks.{room_for, Books}
+use Rattle.intervals.specs.Run.{Ended, Halted, Runs}
+use Rattle.intervals.specs.Blocks.{room_for, Over, Books}
 use Rattle.intervals.specs.declared.run.Run.{Run}
 use Rattle.intervals.specs.declared.blocks.Booked.{Booked}
 use Rattle.prune.specs.Cut.{starts}
@@ -131,23 +131,21 @@ next_one s x None None next next' y z = (refl, y.2 ∙ sym z.2)
 
 -- ---- `shelf::walk::Walk::next`
 
--- what is answered; and the walk past it where a list is found
-pub walk-one : (found : WalkStep) (r q : Result (Option Place) Refusal) (w v : Walk) → Walks found r w → Walks found q v → (r ≡ q) × ((p : Place) → r ≡ Ok (Some p) → w ≡ v)
-walk-one found (Ok (Some x)) (Ok (Some y)) w v a b =
-    let e : step.List x w ≡ step.List y v = sym a ∙ b in
+pub walk-one : (found : WalkStep) (w : Walk) (r q : Result (Option Place) Refusal) (next next' : Walk) → Walks found w r next → Walks found w q next' → (r ≡ q) × (next ≡ next')
+walk-one found w (Ok (Some x)) (Ok (Some y)) next next' a b =
+    let e : step.List x next ≡ step.List y next' = sym a ∙ b in
     let places : x ≡ y = cc in
-    let walks : w ≡ v = cc in
-    (ap (λ (p : Place). Ok (Some p)) places, λ p h. walks)
-walk-one found (Ok (Some x)) (Ok None) w v a b = never (cc)
-walk-one found (Ok (Some x)) (Err q) w v a b = never (cc)
-walk-one found (Ok None) (Ok (Some y)) w v a b = never (cc)
-walk-one found (Ok None) (Ok None) w v a b = (refl, λ p h. never (cc))
-walk-one found (Ok None) (Err q) w v a b = never (cc)
-walk-one found (Err r) (Ok (Some y)) w v a b = never (cc)
-walk-one found (Err r) (Ok None) w v a b = never (cc)
-walk-one found (Err r) (Err q) w v a b =
+    (ap (λ (p : Place). Ok (Some p)) places, cc)
+walk-one found w (Ok (Some x)) (Ok None) next next' a (b, m) = never (cc)
+walk-one found w (Ok (Some x)) (Err q) next next' a (b, m) = never (cc)
+walk-one found w (Ok None) (Ok (Some y)) next next' (a, n) b = never (cc)
+walk-one found w (Ok None) (Ok None) next next' (a, n) (b, m) = (refl, n ∙ sym m)
+walk-one found w (Ok None) (Err q) next next' (a, n) (b, m) = never (cc)
+walk-one found w (Err r) (Ok (Some y)) next next' (a, n) b = never (cc)
+walk-one found w (Err r) (Ok None) next next' (a, n) (b, m) = never (cc)
+walk-one found w (Err r) (Err q) next next' (a, n) (b, m) =
     let e : step.Fault (number r.fault) r.offset ≡ step.Fault (number q.fault) q.offset = sym a ∙ b in
-    (ap Err (refusal-one r q (cc) (cc)), λ p h. never (cc))
+    (ap Err (refusal-one r q (cc) (cc)), n ∙ sym m)
 
 -- ---- `rank::keep::offer_in`
 
@@ -198,20 +196,16 @@ meet_one los his ends ats ats' mets' ats'' mets'' d a b = (
 
 -- ---- `opening::turn::open`
 
-under_one : (n a b : ℕ) → a ≤ n → b ≤ n → under n a ≡ under n b → a ≡ b
-under_one n a b l m e =
-    split (ltb a n)
-    (λ x. split (ltb b n)
-    (λ y. let z : some a ≡ some b = rw (x, y) at e in cc)
-    (λ y. some-none a (rw (x, y) at e)))
-    (λ x. split (ltb b n)
-    (λ y. some-none b (sym (rw (x, y) at e)))
-    (λ y. omega (arith, ltb-false a n x, ltb-false b n y)))
+told_one : (r q : Option ℕ) → told r ≡ told q → r ≡ q
+told_one (Some a) (Some b) e = let z : a ≡ b = cc in ap Some z
+told_one (Some a) None e = some-none a e
+told_one None (Some b) e = some-none b (sym e)
+told_one None None e = refl
 
 module _ (s los his tops counts bodies weights was mets : List ℕ) (heads : List Head) (ds ss ds' ss' ds'' ss'' : List ℕ) (first last k : ℕ) (kept : Kept) (r q : Turn)
     (a : Opens s los his tops counts bodies weights was mets heads ds ss ds' ss' first last k kept r) (b : Opens s los his tops counts bodies weights was mets heads ds ss ds'' ss'' first last k kept q) where
   wrongs : r.wrong ≡ q.wrong
-  wrongs = under_one (length s) r.wrong q.wrong a.most b.most (a.wrong ∙ sym b.wrong)
+  wrongs = told_one r.wrong q.wrong (a.wrong ∙ sym b.wrong)
 
   same-docs : ds' ≡ ds''
   same-docs = a.docids ∙ sym b.docids
@@ -220,61 +214,62 @@ module _ (s los his tops counts bodies weights was mets : List ℕ) (heads : Lis
   same-scores = a.scored ∙ sym b.scored
 
   rest : (r.kept ≡ q.kept) × (r.heads ≡ q.heads)
-  rest =
-      split (ltb r.wrong (length s))
-      (λ x. let l : r.wrong < length s = ltb-true _ _ x in
-      let m : q.wrong < length s = omega (arith, wrongs) in
-      ((a.stopped l).0 ∙ sym (b.stopped m).0, (a.stopped l).1 ∙ sym (b.stopped m).1))
-      (λ x. let f : under (length s) r.wrong ≡ none = rw x in
-      let g : under (length s) q.wrong ≡ none = ap (under (length s)) (sym wrongs) ∙ f in
-      (a.rows f ∙ ap (kept_on kept) (a.hits f ∙ sym (b.hits g)) ∙ sym (b.rows g), a.moved f ∙ rw (same-docs, same-scores) (sym (b.moved g))))
+  rest = go r.wrong refl
+    where
+      go : (x : Option ℕ) → r.wrong ≡ x → (r.kept ≡ q.kept) × (r.heads ≡ q.heads)
+      go (Some at) e =
+          let f = a.stopped at e in
+          let g = b.stopped at (sym wrongs ∙ e) in
+          (f.0 ∙ sym g.0, f.1 ∙ sym g.1)
+      go None e =
+          let f : told r.wrong ≡ none = rw e in
+          let g : told q.wrong ≡ none = ap told (sym wrongs) ∙ f in
+          (a.rows f ∙ ap (kept_on kept) (a.hits f ∙ sym (b.hits g)) ∙ sym (b.rows g), a.moved f ∙ rw (same-docs, same-scores) (sym (b.moved g)))
 
   pub open-one : (r ≡ q) × (ds' ≡ ds'') × (ss' ≡ ss'')
   open-one = (λ i. record { heads = rest.1 i; kept = rest.0 i; fresh = (a.fresh ∙ sym b.fresh) i; wrong = wrongs i }, same-docs, same-scores)
 
 -- ---- `intervals::blocks::over_blocks`
 
-found-one : (n : ℕ) (r q : Run) → r.wrong ≤ n → q.wrong ≤ n → found_by n r ≡ found_by n q → (r.wrong ≡ q.wrong) × (n ≤ r.wrong → kept_of r.kept ≡ kept_of q.kept)
-found-one n r q l m e =
-    split (ltb r.wrong n)
-    (λ x. split (ltb q.wrong n)
-    (λ y. let z : refused 8 r.wrong ≡ refused 8 q.wrong = rw (x, y) at e in (cc, λ h. absurd (omega (arith, ltb-true r.wrong n x))))
-    (λ y. let z : refused 8 r.wrong ≡ done (kept_of q.kept) = rw (x, y) at e in apart z))
-    (λ x. split (ltb q.wrong n)
-    (λ y. apart (sym (rw (x, y) at e)))
-    (λ y. let z : done (kept_of r.kept) ≡ done (kept_of q.kept) = rw (x, y) at e in (omega (arith, ltb-false r.wrong n x, ltb-false q.wrong n y), λ h. cc)))
+-- a keeper of the hits
+keeper-one : (t w : Kept) → done (kept_of t) ≡ done (kept_of w) → t ≡ keeper (kept_of t) → w ≡ keeper (kept_of w) → t ≡ w
+keeper-one t w e f g = let h : kept_of t ≡ kept_of w = cc in f ∙ ap keeper h ∙ sym g
 
-module _ (s ends los his tops counts bodies weights : List ℕ) (k : ℕ) (firsts ms ms' ms'' : List ℕ) (r q : Run)
-    (a : Runs s ends los his tops counts bodies weights k firsts ms ms' r) (b : Runs s ends los his tops counts bodies weights k firsts ms ms'' q) where
-  same : (r.wrong ≡ q.wrong) × (length s ≤ r.wrong → kept_of r.kept ≡ kept_of q.kept)
-  same = found-one (length s) r q a.most b.most (a.found ∙ sym b.found)
+module _ (s ends los his tops counts bodies weights : List ℕ) (k : ℕ) (firsts ms ms' ms'' : List ℕ) where
+  ended-one : (r q : Run) → Ended s ends los his tops counts bodies weights k firsts ms ms' r → Ended s ends los his tops counts bodies weights k firsts ms ms'' q → (r ≡ q) × (ms' ≡ ms'')
+  ended-one r q a b =
+      let kept = keeper-one r.kept q.kept (a.found ∙ sym b.found) a.whole b.whole in
+      (λ i. record { kept = kept i; opened = (a.opened ∙ sym b.opened) i }, a.marked ∙ sym b.marked)
 
-  parts : (r.kept ≡ q.kept) × (r.opened ≡ q.opened)
-  parts =
-      split (ltb r.wrong (length s))
-      (λ x. let l : r.wrong < length s = ltb-true _ _ x in
-      let m : q.wrong < length s = omega (arith, same.0) in
-      ((a.stopped l).1 ∙ sym (b.stopped m).1, (a.stopped l).0 ∙ sym (b.stopped m).0))
-      (λ x. let l : length s ≤ r.wrong = ltb-false _ _ x in
-      let m : length s ≤ q.wrong = omega (arith, same.0) in
-      (a.whole l ∙ ap keeper (same.1 l) ∙ sym (b.whole m), a.opened l ∙ sym (b.opened m)))
+  halted-one : (at to : ℕ) → Halted s ends los his tops counts bodies weights k firsts ms ms' at → Halted s ends los his tops counts bodies weights k firsts ms ms'' to → (at ≡ to) × (ms' ≡ ms'')
+  halted-one at to a b = let z : refused 8 at ≡ refused 8 to = a.found ∙ sym b.found in (cc, a.marked ∙ sym b.marked)
 
-  run_is : (r ≡ q) × (ms' ≡ ms'')
-  run_is = (λ i. record { kept = parts.0 i; opened = parts.1 i; wrong = same.0 i }, a.marked ∙ sym b.marked)
+  run_is : (r q : Result Run ℕ) → Runs s ends los his tops counts bodies weights k firsts ms ms' r → Runs s ends los his tops counts bodies weights k firsts ms ms'' q → (r ≡ q) × (ms' ≡ ms'')
+  run_is (Ok r) (Ok q) a b = let e = ended-one r q a b in (ap Ok e.0, e.1)
+  run_is (Ok r) (Err to) a b = apart (b.found ∙ sym a.found)
+  run_is (Err at) (Ok q) a b = apart (a.found ∙ sym b.found)
+  run_is (Err at) (Err to) a b = let e = halted-one at to a b in (ap Err e.0, e.1)
 
-module _ (s ends los his tops counts bodies weights : List ℕ) (k : ℕ) (fs cs ms fs' cs' ms' fs'' cs'' ms'' : List ℕ) (r q : Booked)
+  over_one : (r q : Result Booked Stopped) → Over s ends los his tops counts bodies weights k firsts ms ms' r → Over s ends los his tops counts bodies weights k firsts ms ms'' q → (r ≡ q) × (ms' ≡ ms'')
+  over_one (Ok r) (Ok q) (n, a) (m, b) = let e = ended-one r.run q.run a b in (λ i. Ok (record { intervals = (n ∙ sym m) i; run = e.0 i }), e.1)
+  over_one (Ok r) (Err q) (n, a) (to, m, b) = apart (b.found ∙ sym a.found)
+  over_one (Err r) (Ok q) (at, n, a) (m, b) = apart (a.found ∙ sym b.found)
+  over_one (Err r) (Err q) (at, n, a) (to, m, b) =
+      let e = halted-one at to a b in
+      (ap Err (n ∙ ap {B = Stopped} (λ (x : ℕ). record { refusal = refusal fault.Body x; intervals = length firsts }) e.0 ∙ sym m), e.1)
+
+module _ (s ends los his tops counts bodies weights : List ℕ) (k : ℕ) (fs cs ms fs' cs' ms' fs'' cs'' ms'' : List ℕ) (r q : Result Booked Stopped)
     (a : Books s ends los his tops counts bodies weights k fs cs ms fs' cs' ms' r) (b : Books s ends los his tops counts bodies weights k fs cs ms fs'' cs'' ms'' q) where
   pub book-one : (r ≡ q) × (fs' ≡ fs'') × (cs' ≡ cs'') × (ms' ≡ ms'')
   book-one =
       split (room_for (length (starts max_docid (lists_in (block_in s los his tops counts bodies) ends weights))) (length fs) (length cs) (length ms))
       (λ x. let f = a.filled x in
       let g = b.filled x in
-      let n : r.intervals ≡ q.intervals = f.intervals ∙ sym g.intervals in
-      let u = run_is s ends los his tops counts bodies weights k _ ms ms' ms'' r.run q.run f.run g.run in
-      (λ i. record { intervals = n i; run = u.0 i }, f.firsts ∙ rw n (sym g.firsts), f.ceilings ∙ rw n (sym g.ceilings), u.1))
+      let u = over_one s ends los his tops counts bodies weights k (starts max_docid (lists_in (block_in s los his tops counts bodies) ends weights)) ms ms' ms'' r q f.run g.run in
+      (u.0, f.firsts ∙ sym g.firsts, f.ceilings ∙ sym g.ceilings, u.1))
       (λ x. let f = a.refused x in
       let g = b.refused x in
-      (λ i. record { intervals = (f.intervals ∙ sym g.intervals) i; run = (f.run ∙ sym g.run) i }, f.firsts ∙ sym g.firsts, f.ceilings ∙ sym g.ceilings, f.marks ∙ sym g.marks))
+      (f.refused ∙ sym g.refused, f.firsts ∙ sym g.firsts, f.ceilings ∙ sym g.ceilings, f.marks ∙ sym g.marks))
 
 -- ---- `query::read::read_query`
 
@@ -313,10 +308,6 @@ pub reads_one : (o : Outcome (List Post)) (ds ss ds' ss' ds'' ss'' : List ℕ) (
 reads_one o ds ss ds' ss' ds'' ss'' r q a b = (outcome-one r q (a.docids.answers ∙ sym b.docids.answers), a.docids.holds ∙ sym b.docids.holds, a.scored.holds ∙ sym b.scored.holds)
 
 -- ---- the two rankers
-
--- a keeper of the hits
-keeper-one : (t w : Kept) → done (kept_of t) ≡ done (kept_of w) → t ≡ keeper (kept_of t) → w ≡ keeper (kept_of w) → t ≡ w
-keeper-one t w e f g = let h : kept_of t ≡ kept_of w = cc in f ∙ ap keeper h ∙ sym g
 
 -- `exhaustive::all::rank_all`
 pub rank-one : (o : Outcome (List Hit)) (r q : Result Kept Refusal) → Ranks o r → Ranks o q → r ≡ q

@@ -2,7 +2,7 @@
 use Prim.Native.Nat.{ℕ, ◌≤◌}
 use native.Mathlib.Omega.{arith}
 use mathlib.Core.Path.{◌≡◌, refl}
-use mathlib.Core.List.{List, ◌++◌}
+use mathlib.Core.List.{List}
 use lib.ListN.{length, drop, length-append, length-drop, length-map}
 use lib.Seq.{drop_at}
 use Rattle.model.specs.Outcome.{Outcome, refused, done}

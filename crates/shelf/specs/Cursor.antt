@@ -33,10 +33,10 @@ unfoldable pub walk_step : List ℕ → Walk → WalkStep
 walk_step s w = cond (leb (length s) max_shelf) (step_of w.left w.floor w.at (drop w.at s)) (step.Fault 6 0)
 
 -- what the walk's next answer is, and the walk past it: where no list is found it stays
-abbrev pub Walks : WalkStep → Result (Option Place) Refusal → Walk → Type 0
-Walks found (Ok (Some p)) w = found ≡ step.List p w
-Walks found (Ok None) w = found ≡ step.End
-Walks found (Err r) w = found ≡ step.Fault (number r.fault) r.offset
+abbrev pub Walks : WalkStep → Walk → Result (Option Place) Refusal → Walk → Type 0
+Walks found w (Ok (Some p)) next = found ≡ step.List p next
+Walks found w (Ok None) next = (found ≡ step.End) × (next ≡ w)
+Walks found w (Err r) next = (found ≡ step.Fault (number r.fault) r.offset) × (next ≡ w)
 
 -- what is left of the walk
 unfoldable pub lists_at : List ℕ → Walk → Outcome (List Listing)

@@ -114,7 +114,7 @@ impl Walk {
 
     // The next list; none at the shelf's end. The shelf's size is judged at each step, so that no walk can forget it.
     pub fn next(&mut self, s: &[u8]) -> Result<Option<Place>, Refusal>
-        ensures { Walks (walk_step s.now self.old) result self.new }
+        ensures { Walks (walk_step s.now self.old) self.old result self.new }
     {
         let at = self.at;
         let left = self.left;

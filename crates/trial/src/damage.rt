@@ -1,24 +1,26 @@
 // Shelves that were damaged: the checker and both rankers still agree.
 ghost use Rattle.std.specs.Prelude.{◌<◌, ◌≤◌, length};
 
-use crate::answers::{Refusal, check, is_refused, rank_all};
+use crate::answers::{allows, rank_all};
 use crate::asking::Question;
 use crate::chance::Chance;
 use crate::pruning::{agree, search_only};
 use crate::tally::Tally;
+use model::refusal::{Fault, Refusal};
 use rank::keep::Kept;
+use shelf::check::check;
 
 // Whether the exhaustive ranker answers by what the checker finds: 6 and 7 it finds too, of the wrong bodies those of its lists. A fault is counted,
 // and the converter must name it too.
 fn follows_checker(all: &Result<Kept, Refusal>, shelf: &[u8], tally: &mut Tally) -> bool {
-    let Err(fault) = check(shelf) else {
+    let Err(refusal) = check(shelf) else {
         return all.is_ok();
     };
     let mut out = [0; 1];
     let answer = convert::convert::convert(shelf, 0, &mut out);
     tally.faults.add(1);
-    tally.expect(is_refused(answer, fault.number, fault.at));
-    fault.allows(all)
+    tally.expect(answer == Err(refusal));
+    allows(refusal, all)
 }
 
 // A query by chance to a shelf that may be damaged.
@@ -90,18 +92,15 @@ fn right_flip(shelf: &[u8], at: usize) -> bool
     let later = 2 < shelf[field_of(shelf, at - 1)];
     let more = shelf.get(next).is_some_and(|tag| 2 < *tag);
     let due = if later {
-        Refusal { number: 6, at }
+        Fault::ShelfField.at(at)
     } else if more {
-        Refusal {
-            number: 6,
-            at: next,
-        }
+        Fault::ShelfField.at(next)
     } else {
-        Refusal { number: 8, at }
+        Fault::Body.at(at)
     };
     match check(shelf) {
         Ok(()) => !later && !more,
-        Err(fault) => fault == due,
+        Err(refusal) => refusal == due,
     }
 }
 

@@ -2,12 +2,13 @@
 ghost use Rattle.std.specs.Prelude.{◌<◌};
 ghost use Rattle.trial.specs.declared.table.TheConstants.{TERMS, SHEETS};
 
-use crate::answers::{Refusal, check, written};
 use crate::bench::Bench;
 use crate::chance::Chance;
 use crate::comparing::compare_any;
 use crate::table::{SHEETS, TERMS, Table, docid_of, term_number};
 use crate::writing::one_writing;
+use model::refusal::{Fault, Refusal};
+use shelf::check::check;
 
 // What stands in the output before an edit.
 const BLANK: u8 = 0xa5;
@@ -72,9 +73,9 @@ fn term(chance: &mut Chance) -> usize
     chance.draw(bound)
 }
 
-// "12" where there is nothing to act on
-fn missing(found: bool) -> Option<u8> {
-    (!found).then_some(12)
+// The refusal where there is nothing to act on.
+fn missing(found: bool) -> Option<Refusal> {
+    (!found).then_some(Fault::Absent.at(0))
 }
 
 impl Edit {
@@ -98,13 +99,13 @@ impl Edit {
         matches!(self.kind, Kind::Convert)
     }
 
-    // The number of the refusal that is due, if one is.
-    fn due(&self, table: &Table) -> Option<u8> {
+    // The refusal that is due, if one is.
+    fn due(&self, table: &Table) -> Option<Refusal> {
         let out_of_range = self.docid == 0 || model::MAX_DOCID < self.docid;
         match self.kind {
             Kind::Convert => missing(table.is_listed(self.term)),
-            _ if out_of_range => Some(10),
-            Kind::Set { score } => (score == 0).then_some(10),
+            _ if out_of_range => Some(Fault::Posting.at(0)),
+            Kind::Set { score } => (score == 0).then_some(Fault::Posting.at(0)),
             Kind::Clear => missing(table.score(self.term, self.sheet) != 0),
             Kind::Withdraw => missing(table.is_held(self.sheet)),
         }
@@ -122,12 +123,12 @@ impl Edit {
     // What an entry point answers to it.
     fn make(&self, shelf: &[u8], out: &mut [u8]) -> Result<usize, Refusal> {
         let term = term_number(self.term);
-        written(match self.kind {
+        match self.kind {
             Kind::Set { score } => edit::edit::set(shelf, term, self.docid, score, out),
             Kind::Clear => edit::edit::clear(shelf, term, self.docid, out),
             Kind::Withdraw => edit::edit::withdraw(shelf, self.docid, out),
             Kind::Convert => convert::convert::convert(shelf, term, out),
-        })
+        }
     }
 }
 
@@ -140,9 +141,8 @@ fn is_blank(out: &[u8]) -> bool {
 impl Bench {
     // "Counts in a refusal are 0 and outputs are untouched"
     fn refuse(&mut self, edit: &Edit, refusal: Refusal) {
-        let due = edit.due(&self.table) == Some(refusal.number);
-        self.tally
-            .expect(due && refusal.at == 0 && is_blank(&self.out));
+        let due = edit.due(&self.table) == Some(refusal);
+        self.tally.expect(due && is_blank(&self.out));
     }
 
     // An edit that was accepted: the table follows it, and then the shelf, whose length a conversion keeps. The output holds the bytes of one

@@ -1,7 +1,7 @@
 // The paper's list: "Run: k 100 and 101; 8 and 9 terms; 100 and 101 postings (one block, two); 6,400 and 6,401; docid 1, 16,777,215; gap number 127 and 128."
 ghost use Rattle.std.specs.Prelude.{◌≤◌};
 
-use crate::answers::{Refusal, check, is_refused, rank_all, written};
+use crate::answers::rank_all;
 use crate::asking::Question;
 use crate::bench::Bench;
 use crate::bytes::{Bytes, ROOM};
@@ -12,6 +12,8 @@ use crate::pruning::{agree, search_only};
 use crate::second::Hits;
 use crate::tally::Tally;
 use crate::writing::append;
+use model::refusal::{Fault, Refusal};
+use shelf::check::check;
 
 // The term of the lists that are made here.
 const TERM: u32 = 7;
@@ -53,9 +55,9 @@ impl Bench {
 
     fn queries(&mut self) {
         self.query_taken(100, 4);
-        self.query_refused(101, 4, Refusal { number: 2, at: 0 });
+        self.query_refused(101, 4, Fault::HitCount.at(0));
         self.query_taken(10, 8);
-        self.query_refused(10, 9, Refusal { number: 3, at: 68 });
+        self.query_refused(10, 9, Fault::TermCount.at(68));
     }
 }
 
@@ -68,9 +70,9 @@ pub(crate) fn is_turned(shelf: &[u8], term: u32, other: &[u8]) -> bool {
     let cut = convert::convert::convert(shelf, term, &mut short);
     let unlisted = convert::convert::convert(shelf, u32::MAX, &mut short);
     let made = convert::convert::convert(shelf, term, &mut out);
-    is_refused(cut, 9, 0)
-        && is_refused(unlisted, 12, 0)
-        && written(made) == Ok(shelf.len())
+    cut == Err(Fault::Room.at(0))
+        && unlisted == Err(Fault::Absent.at(0))
+        && made == Ok(shelf.len())
         && shelf.len() == other.len()
         && out.starts_with(other)
 }
@@ -89,7 +91,7 @@ fn reads_as(shelf: &[u8], run: Run) -> bool {
     let mut docids = [0; 6400];
     let mut scores = [0; 6400];
     let answer = list::read::read_list(shelf, TERM, &mut docids, &mut scores);
-    written(answer) == Ok(run.docids.len())
+    answer == Ok(run.docids.len())
         && docids.starts_with(run.docids)
         && scores.starts_with(run.scores)
 }
@@ -145,9 +147,9 @@ impl Bench {
         let postings = every_third(6401);
         let run = postings.as_run();
         let answer = list::write::write_list(false, TERM, run.docids, run.scores, &mut self.out);
-        self.tally.case(is_refused(answer, 11, 0));
+        self.tally.case(answer == Err(Fault::Size.at(0)));
         let answer = edit::edit::set(self.fresh.as_slice(), TERM, 19201, 1, &mut self.out);
-        self.tally.case(is_refused(answer, 11, 0));
+        self.tally.case(answer == Err(Fault::Size.at(0)));
     }
 
     // "100 and 101 postings (one block, two); 6,400 and 6,401", each as a strip too, which takes as many bytes.
@@ -174,14 +176,14 @@ fn docid_taken(docid: u32, out: &mut [u8]) -> bool {
         docids: &[docid],
         scores: &[9],
     };
-    let Ok(n) = written(edit::edit::set(b"", TERM, docid, 9, out)) else {
+    let Ok(n) = edit::edit::set(b"", TERM, docid, 9, out) else {
         return false;
     };
     out.get(..n).is_some_and(|shelf| reads_as(shelf, run) && only_hit(shelf, docid, 2295))
 }
 
 fn docid_refused(docid: u32, out: &mut [u8]) -> bool {
-    is_refused(edit::edit::set(b"", TERM, docid, 9, out), 10, 0)
+    edit::edit::set(b"", TERM, docid, 9, out) == Err(Fault::Posting.at(0))
 }
 
 impl Bench {

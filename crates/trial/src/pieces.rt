@@ -1,5 +1,4 @@
 // The table's postings in small blocks, so that a search has many intervals.
-use crate::answers::check;
 use crate::bench::Bench;
 use crate::bytes::Bytes;
 use crate::comparing::compare_any;
@@ -7,6 +6,7 @@ use crate::damage::damage_often;
 use crate::limits::is_turned;
 use crate::table::{TERMS, term_number};
 use crate::writing::cut;
+use shelf::check::check;
 
 impl Bench {
     // A list of the shelf cut anew, converted: the shelf is then cut alike with that list in the other layout, and converted again it is itself.

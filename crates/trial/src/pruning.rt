@@ -1,8 +1,9 @@
 // The pruned ranker: its hits, its book, and what it says where the exhaustive one refuses.
-use crate::answers::{Refusal, rows, search};
+use crate::answers::{allows, rows, search};
 use crate::asking::Question;
 use crate::second::{Hits, Sums};
 use crate::tally::Tally;
+use model::refusal::Refusal;
 use pruned::search::Pruned;
 use rank::keep::Kept;
 
@@ -86,6 +87,6 @@ pub(crate) fn agree(all: &Result<Kept, Refusal>, pruned: &Result<Pruned, Refusal
     match (all, pruned) {
         (Ok(ours), Ok(theirs)) => rows(ours) == rows(&theirs.kept),
         (Ok(_), Err(_)) => false,
-        (Err(refusal), _) => refusal.allows(pruned),
+        (Err(refusal), _) => allows(*refusal, pruned),
     }
 }

@@ -1,5 +1,5 @@
 // What the trial counts.
-use crate::answers::Refusal;
+use model::refusal::Refusal;
 use std::fmt;
 
 #[derive(Clone, Copy, Default)]

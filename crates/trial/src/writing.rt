@@ -2,7 +2,6 @@
 ghost use Rattle.std.specs.Prelude.{◌<◌};
 ghost use Rattle.trial.specs.declared.table.TheConstants.{TERMS};
 
-use crate::answers::written;
 use crate::asking::field_of_5;
 use crate::bytes::{Bytes, ROOM};
 use crate::chance::Chance;
@@ -14,8 +13,7 @@ pub(crate) fn append<const N: usize>(out: &mut Bytes<N>, strip: bool, term: u32,
     let at = out.len;
     let held = &mut out.held[..];
     let room = &mut held[at..];
-    let answer = list::write::write_list(strip, term, run.docids, run.scores, room);
-    if let Ok(n) = written(answer) {
+    if let Ok(n) = list::write::write_list(strip, term, run.docids, run.scores, room) {
         out.len = at.saturating_add(n).min(N);
     }
 }

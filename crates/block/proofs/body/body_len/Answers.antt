@@ -33,6 +33,7 @@ loop-d-init c =
     ((even_tail 0 ds ss q.0 q.2).rise, omega arith, sym (body-size ds ss q.2.same q.0))
 
 -- the turn at the docid that the loop is at
+
 here : (p i : ℕ) (ds ss : List ℕ) → length ds ≡ length ss → i < length (later ds) → Rising p (from (i + 1) ds ss) → Turn p (get_or (later ds) i 0) (get_or ss (i + 1) 0) (from (i + 1) ds ss) (from (i + 1 + 1) ds ss)
 here p i ds ss e h r =
     let in_range : i + 1 < length ds = omega (arith, later_length ds) in

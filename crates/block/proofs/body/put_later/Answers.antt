@@ -3,7 +3,7 @@ use Rattle.std.specs.Iterator.Adapters.{zip_first, zip_second}
 use Rattle.std.specs.Slice.Iter.{iter_rest}
 use Rattle.std.proofs.lemmas.Slice.Zip.{either_empty_from_Zip}
 use Rattle.model.specs.Post.{Post, postings, post}
-use Rattle.model.proofs.Storing.{stored-append, stored-length, rest-start, rest-turn, rest-room, rest_end}
+use Rattle.model.proofs.Storing.{stored-append, stored-length, rest-turn, rest-room, rest_end}
 use Rattle.block.specs.Body.{later_bytes}
 use Rattle.block.proofs.Bodies.{Turn, turn, piece, piece_size, later-end}
 use Prim.Native.Nat.{ℕ, ◌+◌, ◌≤◌}
@@ -22,34 +22,6 @@ ended : (ds ss : List ℕ) → (ds ≡ []) ⊎ (ss ≡ []) → postings ds ss �
 ended ds ss (inl e) = rw e
 ended [] ss (inr f) = refl
 ended (d ∷ ds) ss (inr f) = rw f
-
-pub loop-d-init : goal.loop-d-init
-loop-d-init c =
-    let d : iter_rest (zip_first c.into_iter-d-iterator.result) ≡ c.args.docs.now = cc in
-    let s : iter_rest (zip_second c.into_iter-d-iterator.result) ≡ c.args.scores.now = cc in
-    rw (d, s) (c.requires.0.rise, rest-start _ _ _)
-
-pub overflow_sub-d : goal.overflow_sub-d
-overflow_sub-d c =
-    let l = c.loop-d in
-    let n = c.next.new.self in
-    let ps = postings (iter_rest (zip_first l.d-iterator)) (iter_rest (zip_second l.d-iterator)) in
-    let qs = postings (iter_rest (zip_first n)) (iter_rest (zip_second n)) in
-    let d = c.in-Some.field-0-0.now in
-    let w = c.in-Some.field-0-1.now in
-    let t : Turn l.p d w ps qs = turn l.p d w ps qs (next d w _ _ _ _ c.in-Some.ensures.steps.0 c.in-Some.ensures.steps.1) l.invariant.0 in
-    omega (arith, t.above)
-
-pub overflow_sub-d-in-loop-d : goal.overflow_sub-d-in-loop-d
-overflow_sub-d-in-loop-d c =
-    let l = c.loop-d in
-    let n = c.next.new.self in
-    let ps = postings (iter_rest (zip_first l.d-iterator)) (iter_rest (zip_second l.d-iterator)) in
-    let qs = postings (iter_rest (zip_first n)) (iter_rest (zip_second n)) in
-    let d = c.in-Some.field-0-0.now in
-    let w = c.in-Some.field-0-1.now in
-    let t : Turn l.p d w ps qs = turn l.p d w ps qs (next d w _ _ _ _ c.in-Some.ensures.steps.0 c.in-Some.ensures.steps.1) l.invariant.0 in
-    omega (arith, t.above)
 
 pub put_gap-j-requires : goal.put_gap-j-requires
 put_gap-j-requires c =

@@ -20,9 +20,6 @@ returns-then-not-strip c =
     let ps = postings a.docs.now a.scores.now in
     rest_end (ap (λ (b : Bool). back_bytes b ps) c.if-not-strip.true ∙ back_plain ps) (rest-start a.out.now a.at (back_bytes a.strip ps))
 
-pub loop-s-init : goal.loop-s-init
-loop-s-init c = rest-start _ _ _
-
 pub put2-j-requires : goal.put2-j-requires
 put2-j-requires c =
     let here : let a = c.args in
@@ -44,9 +41,6 @@ loop-s-preserved c =
     let a = c.args in
     let i = c.loop-s.s-index in
     rest-turn (be 2 (get_or a.scores.now i 0)) (back_bytes a.strip (from (i + 1) a.docs.now a.scores.now)) (here) c.loop-s.invariant c.put2-j.ensures
-
-pub shape_of-out : goal.shape_of-out
-shape_of-out c = c.loop-s.invariant.same
 
 pub returns : goal.returns
 returns c =

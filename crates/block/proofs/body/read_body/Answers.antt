@@ -1,7 +1,6 @@
 -- `block::body::read_body` meets its contract. The invariant: what is left to judge and to store gives what is asked (`Fillings`). Assumes nothing.
 use Prim.Native.Nat.{ℕ, ◌+◌, ◌-◌, ◌<◌, max}
 use native.Mathlib.Nat.{max-eq_left, max-eq_right, le_of_lt}
-use native.Mathlib.Omega.{arith}
 use mathlib.Core.Path.{◌≡◌}
 use mathlib.Core.Bool.{false}
 use mathlib.Core.List.{List, []}
@@ -23,14 +22,6 @@ loop-doc-init c =
     let a = c.args in
     fill_start (front) (back) a.m c.new-c.result a.at a.docs.now a.scores.now c.new-c.ensures c.requires.0 c.requires.1
 
-pub offset_bounds-docs-i : goal.offset_bounds-docs-i
-offset_bounds-docs-i c =
-    let front : List ℕ = take (c.edge-e.result - 0) c.args.s.now in
-    let back : List ℕ = take (length c.args.s.now - c.edge-e.result) (drop c.edge-e.result c.args.s.now) in
-    let stepped : step_at (front) (back) c.loop-doc.c ≡ Posting c.in-Posting.doc c.in-Posting.score c.in-Posting.onward = cc in
-    let room : (c.loop-doc.i < length c.loop-doc.docs) × (c.loop-doc.i < length c.loop-doc.scores) = fill-room c.in-Posting.doc c.in-Posting.score c.in-Posting.onward (stepped) c.loop-doc.invariant in
-    omega (arith, (room).0)
-
 pub bounds-docs-i : goal.bounds-docs-i
 bounds-docs-i c =
     let front : List ℕ = take (c.edge-e.result - 0) c.args.s.now in
@@ -39,14 +30,6 @@ bounds-docs-i c =
     let room : (c.loop-doc.i < length c.loop-doc.docs) × (c.loop-doc.i < length c.loop-doc.scores) = fill-room c.in-Posting.doc c.in-Posting.score c.in-Posting.onward (stepped) c.loop-doc.invariant in
     (room).0
 
-pub offset_bounds-scores-i : goal.offset_bounds-scores-i
-offset_bounds-scores-i c =
-    let front : List ℕ = take (c.edge-e.result - 0) c.args.s.now in
-    let back : List ℕ = take (length c.args.s.now - c.edge-e.result) (drop c.edge-e.result c.args.s.now) in
-    let stepped : step_at (front) (back) c.loop-doc.c ≡ Posting c.in-Posting.doc c.in-Posting.score c.in-Posting.onward = cc in
-    let room : (c.loop-doc.i < length c.loop-doc.docs) × (c.loop-doc.i < length c.loop-doc.scores) = fill-room c.in-Posting.doc c.in-Posting.score c.in-Posting.onward (stepped) c.loop-doc.invariant in
-    omega (arith, (room).1)
-
 pub bounds-scores-i : goal.bounds-scores-i
 bounds-scores-i c =
     let front : List ℕ = take (c.edge-e.result - 0) c.args.s.now in
@@ -54,14 +37,6 @@ bounds-scores-i c =
     let stepped : step_at (front) (back) c.loop-doc.c ≡ Posting c.in-Posting.doc c.in-Posting.score c.in-Posting.onward = cc in
     let room : (c.loop-doc.i < length c.loop-doc.docs) × (c.loop-doc.i < length c.loop-doc.scores) = fill-room c.in-Posting.doc c.in-Posting.score c.in-Posting.onward (stepped) c.loop-doc.invariant in
     (room).1
-
-pub overflow_add-i : goal.overflow_add-i
-overflow_add-i c =
-    let front : List ℕ = take (c.edge-e.result - 0) c.args.s.now in
-    let back : List ℕ = take (length c.args.s.now - c.edge-e.result) (drop c.edge-e.result c.args.s.now) in
-    let stepped : step_at (front) (back) c.loop-doc.c ≡ Posting c.in-Posting.doc c.in-Posting.score c.in-Posting.onward = cc in
-    let room : (c.loop-doc.i < length c.loop-doc.docs) × (c.loop-doc.i < length c.loop-doc.scores) = fill-room c.in-Posting.doc c.in-Posting.score c.in-Posting.onward (stepped) c.loop-doc.invariant in
-    omega (arith, (room).0)
 
 pub loop-doc-smaller-then-largest-score : goal.loop-doc-smaller-then-largest-score
 loop-doc-smaller-then-largest-score c =
@@ -103,12 +78,6 @@ loop-doc-preserved c =
     c.in-Posting.onward c.in-Posting.doc (max l.largest c.in-Posting.score) (l.i + 1) = fill-turn c.in-Posting.doc c.in-Posting.score c.in-Posting.onward (stepped) c.loop-doc.invariant in
     rw (max-eq_left c.if-largest-score.false) at (turned)
 
-pub shape_of-docs-then-last-greatest : goal.shape_of-docs-then-last-greatest
-shape_of-docs-then-last-greatest c = c.loop-doc.invariant.docids.same
-
-pub shape_of-scores-then-last-greatest : goal.shape_of-scores-then-last-greatest
-shape_of-scores-then-last-greatest c = c.loop-doc.invariant.scored.same
-
 pub returns-then-last-greatest : goal.returns-then-last-greatest
 returns-then-last-greatest c =
     let front : List ℕ = take (c.edge-e.result - 0) c.args.s.now in
@@ -128,12 +97,6 @@ returns-then-last-greatest c =
     let e : fits m.greatest m.top l.last l.largest (posts_at (front) (back) l.c) ≡ eqb l.largest m.top = rw (fit-end (front) (back) l.c m.greatest m.top l.last l.largest f, eq-eqb l.last m.greatest c.if-last-greatest.true) in
     rw e at (done (run_end (front) (back) l.c f))
 
-pub shape_of-docs-else-last-greatest : goal.shape_of-docs-else-last-greatest
-shape_of-docs-else-last-greatest c = c.loop-doc.invariant.docids.same
-
-pub shape_of-scores-else-last-greatest : goal.shape_of-scores-else-last-greatest
-shape_of-scores-else-last-greatest c = c.loop-doc.invariant.scored.same
-
 pub returns-else-last-greatest : goal.returns-else-last-greatest
 returns-else-last-greatest c =
     let front : List ℕ = take (c.edge-e.result - 0) c.args.s.now in
@@ -152,12 +115,6 @@ returns-else-last-greatest c =
     let f : step_at (front) (back) l.c ≡ End = cc in
     let e : fits m.greatest m.top l.last l.largest (posts_at (front) (back) l.c) ≡ eqb l.last m.greatest = rw (fit-end (front) (back) l.c m.greatest m.top l.last l.largest f, ne_eqb l.last m.greatest c.if-last-greatest.false) in
     rw e at (done (run_end (front) (back) l.c f))
-
-pub shape_of-docs-in-Bad : goal.shape_of-docs-in-Bad
-shape_of-docs-in-Bad c = c.loop-doc.invariant.docids.same
-
-pub shape_of-scores-in-Bad : goal.shape_of-scores-in-Bad
-shape_of-scores-in-Bad c = c.loop-doc.invariant.scored.same
 
 pub returns-in-Bad : goal.returns-in-Bad
 returns-in-Bad c =

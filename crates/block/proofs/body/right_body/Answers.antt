@@ -6,14 +6,11 @@ use Rattle.block.proofs.Steps.{step-onward, fit-posting, fit-end, fit_bad}
 use Rattle.block.proofs.Bodies.{right-start}
 use native.Mathlib.Nat.{max-eq_left, max-eq_right, le_of_lt}
 use Prim.Native.Nat.{ℕ, ◌-◌, ◌<◌, max}
-use mathlib.Core.Path.{◌≡◌, refl, ◌∙◌}
+use mathlib.Core.Path.{◌≡◌, ◌∙◌}
 use mathlib.Core.List.{List}
 use borrow.Author.Tests.{eq-eqb, ne_eqb}
 use lib.ListN.{length, take, drop}
 use Rattle.block.proofs.body.right_body.Goals as goal
-
-pub loop-doc-init : goal.loop-doc-init
-loop-doc-init c = refl
 
 pub loop-doc-smaller-then-most-score : goal.loop-doc-smaller-then-most-score
 loop-doc-smaller-then-most-score c =

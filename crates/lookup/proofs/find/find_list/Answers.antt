@@ -36,9 +36,10 @@ returns-in_err-list c =
     let s = c.args.s.now in
     let r = c.in_err-list.field-0.0 in
     refused_up c.from_residual.result r c.from_residual.ensures.1
-    ∙ sym (l.invariant ∙ rw (walk-fault s l.walk (number r.fault) r.offset c.in_err-list.ensures))
+    ∙ sym (l.invariant ∙ rw (walk-fault s l.walk (number r.fault) r.offset c.in_err-list.ensures.0))
 
 -- `ok_or` answers for what is known
+
 answered : (known : Option Place) (x : Result Place Refusal) → x ≡ ok_or known (refusal fault.Absent 0) → outcome_of x ≡ or_absent known
 answered (Some p) x e = rw e
 answered None x e = rw e
@@ -48,4 +49,4 @@ returns c =
     let l = c.loop-list in
     let s = c.args.s.now in
     answered l.known c.ok_or.result (rw c.at.ensures at c.ok_or.ensures.value)
-    ∙ sym (l.invariant ∙ rw (walk_end s l.walk (rw c.in_default.is at c.in_ok-list.ensures)))
+    ∙ sym (l.invariant ∙ rw (walk_end s l.walk (rw c.in_default.is at c.in_ok-list.ensures).0))

@@ -2,20 +2,13 @@
 use borrow.Author.Rules.{rules}
 use Rattle.std.proofs.lemmas.Result.{err_from_is_err_and}
 use Rattle.shelf.proofs.Steps.{turn}
-use Rattle.lookup.proofs.Gathers.{noting_start, noting_turn, noting_sizes, noting_end, noting_fault}
+use Rattle.lookup.proofs.Gathers.{noting_start, noting_turn, noting_end, noting_fault}
 use Rattle.lookup.proofs.gather.find_terms.Goals as goal
 
 pub loop-list-init : goal.loop-list-init
 loop-list-init c =
     let a = c.args in
     noting_start a.s.now a.terms a.n c.new-walk.result c.new-walk.ensures (search rules) (search rules)
-
-pub note-requires : goal.note-requires
-note-requires c =
-    let a = c.args in
-    let l = c.loop-list in
-    let z = noting_sizes a.s.now a.terms a.n l.ats l.counts l.walk l.invariant (search rules) (search rules) in
-    (search rules, search rules, z.0, z.1)
 
 pub loop-list-smaller : goal.loop-list-smaller
 loop-list-smaller c = (turn c.args.s.now c.loop-list.walk c.in-Some.list c.next.new.self (rw c.in-Some.is at c.in_ok-list.ensures)).fewer
@@ -32,10 +25,10 @@ returns-in_err-list c =
     let a = c.args in
     let l = c.loop-list in
     let p = err_from_is_err_and c.from_residual.result c.from_residual.ensures.1 in
-    rw (p.1, p.2) (noting_fault a.s.now a.terms a.n l.ats l.counts l.walk l.invariant c.in_err-list.field-0.0 c.in_err-list.ensures)
+    rw (p.1, p.2) (noting_fault a.s.now a.terms a.n l.ats l.counts l.walk l.invariant c.in_err-list.field-0.0 c.in_err-list.ensures.0)
 
 pub returns : goal.returns
 returns c =
     let a = c.args in
     let l = c.loop-list in
-    noting_end a.s.now a.terms a.n l.ats l.counts l.walk l.invariant (rw c.in_default.is at c.in_ok-list.ensures)
+    noting_end a.s.now a.terms a.n l.ats l.counts l.walk l.invariant (rw c.in_default.is at c.in_ok-list.ensures).0

@@ -1,20 +1,13 @@
 -- `shelf::check::bad_body` meets its contract. The invariant: the first wrong body of all is the first of those that are left (`Readings`). Assumes nothing.
-use native.Mathlib.Omega.{arith}
 use mathlib.Core.Path.{◌≡◌, sym, ap, ◌∙◌}
 use Rattle.shelf.specs.Blocks.{blocks_left}
 use Rattle.shelf.specs.Walk.{blocks_at}
 use Rattle.shelf.specs.Check.{bad_body}
-use Rattle.shelf.proofs.Readings.{start_left_lem, judge-start, judge-right, judge-wrong, judge-none}
+use Rattle.shelf.proofs.Readings.{start_left_lem, judge-start, judge-wrong, judge-none}
 use Rattle.shelf.proofs.check.bad_body.Goals as goal
-
-pub new-reading-requires : goal.new-reading-requires
-new-reading-requires c = omega (arith, c.requires.room)
 
 pub loop-b-init : goal.loop-b-init
 loop-b-init c = judge-start c.args.s.now c.args.list c.new-reading.result c.requires c.new-reading.ensures
-
-pub next-requires : goal.next-requires
-next-requires c = c.loop-b.invariant.rests
 
 pub returns-then-not-right_body : goal.returns-then-not-right_body
 returns-then-not-right_body c =
@@ -24,12 +17,6 @@ returns-then-not-right_body c =
     let b = c.in-Some.b in
     let first = judge-wrong a.s.now c.new-reading.result c.loop-b.reading f.0 b.start b.end c.next.new.self b.summary f.1 f.2 c.loop-b.invariant (sym c.if-not-right_body.ensures) in
     sym first ∙ ap bad_body started
-
-pub loop-b-preserved : goal.loop-b-preserved
-loop-b-preserved c =
-    let f = c.in-Some.ensures in
-    let b = c.in-Some.b in
-    judge-right c.args.s.now c.new-reading.result c.loop-b.reading f.0 b.start b.end c.next.new.self b.summary f.1 f.2 c.loop-b.invariant (sym c.if-not-right_body.ensures)
 
 pub returns : goal.returns
 returns c =

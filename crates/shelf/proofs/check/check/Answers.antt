@@ -35,10 +35,10 @@ returns-in_err-list c =
     let s = c.args.s.now in
     let r = c.in_err-list.field-0.0 in
     refused_up c.from_residual.result r c.from_residual.ensures.1
-    ∙ sym (l.invariant ∙ rw (walk-fault s l.walk (number r.fault) r.offset c.in_err-list.ensures))
+    ∙ sym (l.invariant ∙ rw (walk-fault s l.walk (number r.fault) r.offset c.in_err-list.ensures.0))
 
 pub returns : goal.returns
 returns c =
     let l = c.loop-list in
     let s = c.args.s.now in
-    c.verdict_of.ensures ∙ sym (l.invariant ∙ finish_end l.bad (lists_at s l.walk) (walk_end s l.walk (rw c.in_default.is at c.in_ok-list.ensures)))
+    c.verdict_of.ensures ∙ sym (l.invariant ∙ finish_end l.bad (lists_at s l.walk) (walk_end s l.walk (rw c.in_default.is at c.in_ok-list.ensures).0))

@@ -32,6 +32,7 @@ overflow_add-p-in-loop-turn c =
     omega (arith, field_fits (is_strip (drop a.at a.s.now)) a.s.now c.loop-turn.p c.in-Some.len (cc))
 
 -- a body passed: one turn of the loop, of which `turn` are done
+
 passed_one : (strip : Bool) (n turn p len : ℕ) (s : List ℕ) → turn < n → field_at (tag_of strip) s p ≡ Some len →
     bodies_of strip (n - turn) p (drop p s) ≡ bodies_of strip (n - (turn + 1)) (p + (3 + len)) (drop (p + (3 + len)) s)
 passed_one strip n turn p len s h e =

@@ -4,18 +4,14 @@ use Rattle.std.specs.Prelude.{Some, None}
 use Rattle.block.proofs.Summaries.{sum-found, sum_missing, sum_room}
 use Rattle.shelf.proofs.Walks.{sums_none, sums-step, sums-wrong, sums_missing}
 use native.Mathlib.Omega.{arith}
-use native.Mathlib.Nat.{sub-zero}
 use mathlib.Core.List.{List}
 use Prim.Native.Nat.{ℕ, ◌+◌, ◌-◌, ◌<◌}
 use Rattle.shelf.specs.Walk.{sums}
 use Rattle.block.specs.declared.summary.Summary.{Summary}
-use mathlib.Core.Path.{◌≡◌, refl, sym, ◌∙◌}
+use mathlib.Core.Path.{◌≡◌, sym, ◌∙◌}
 use mathlib.Core.Bool.{true, false}
 use lib.ListN.{drop, length-drop}
 use Rattle.shelf.proofs.walk.sums_at.Goals as goal
-
-pub loop-turn-init : goal.loop-turn-init
-loop-turn-init c = rw sub-zero refl
 
 pub returns-then-not-right_summary : goal.returns-then-not-right_summary
 returns-then-not-right_summary c =
@@ -32,6 +28,7 @@ overflow_add-p c =
     omega (arith, sum_room (drop l.p a.s.now) (sum-found a.s.now l.p c.in-Some.m (cc)).0, length-drop l.p a.s.now)
 
 -- a summary passed: one turn of the loop, of which `turn` are done
+
 passed_one : (n turn prev p : ℕ) (m : Summary) (s : List ℕ) → turn < n → sum_at s p ≡ Some m → right_sum prev m ≡ true →
     sums (n - turn) prev p (drop p s) ≡ sums (n - (turn + 1)) m.greatest (p + 12) (drop (p + 12) s)
 passed_one n turn prev p m s h e w =

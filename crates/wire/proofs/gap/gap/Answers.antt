@@ -7,9 +7,6 @@ use Rattle.wire.proofs.gap.gap.Goals as goal
 pub returns-then-s-at : goal.returns-then-s-at
 returns-then-s-at c = let a = c.args in sym (gap-end a.most a.s.now a.at c.if-s-at.true)
 
-pub overflow_cast-b : goal.overflow_cast-b
-overflow_cast-b c = omega (arith, c.shared_slice_known-2-1.given c.args.at)
-
 pub returns-then-b-lt128 : goal.returns-then-b-lt128
 returns-then-b-lt128 c =
     let a = c.args in

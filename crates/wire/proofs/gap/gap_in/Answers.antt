@@ -34,9 +34,6 @@ returns-then-s-i c =
     let l = c.loop-turn in
     rw (l.invariant.1, gap-end (a.most - l.turn) a.s.now l.i c.if-s-i.true)
 
-pub overflow_cast-b : goal.overflow_cast-b
-overflow_cast-b c = omega (arith, c.shared_slice_known-1.given c.loop-turn.i)
-
 pub returns-then-b-at : goal.returns-then-b-at
 returns-then-b-at c =
     let a = c.args in

@@ -4,7 +4,7 @@ use Rattle.wire.proofs.Gaps.{in_last, in_step, in_some}
 use Prim.Native.Nat.{ℕ, zero, suc, ◌+◌, ◌/◌, ◌%◌, ◌^◌, ◌≤◌, ◌<◌}
 use native.Mathlib.Omega.{arith}
 use native.Mathlib.Numerals.{add-one}
-use mathlib.Core.Path.{◌≡◌, refl}
+use mathlib.Core.Path.{◌≡◌}
 use mathlib.Core.List.{List}
 use lib.ListN.{length, set, length-set}
 use lib.Seq.{sets}
@@ -25,14 +25,8 @@ turn out₀ out at g n i (suc f) big small len end all = (
   rw add-one (simp (in_step (suc f) n big) at all),
 )
 
-pub loop-n-init : goal.loop-n-init
-loop-n-init c = (4, omega arith, refl, refl, refl)
-
 pub bounds-out-i : goal.bounds-out-i
 bounds-out-i c = omega (arith, in_some c.loop-n.invariant.0 c.loop-n.n)
-
-pub overflow_add-i : goal.overflow_add-i
-overflow_add-i c = omega (arith, in_some c.loop-n.invariant.0 c.loop-n.n)
 
 pub loop-n-preserved : goal.loop-n-preserved
 loop-n-preserved c =
@@ -42,12 +36,6 @@ loop-n-preserved c =
 
 pub bounds-out-i-2 : goal.bounds-out-i-2
 bounds-out-i-2 c = omega (arith, in_some c.loop-n.invariant.0 c.loop-n.n)
-
-pub overflow_add-result : goal.overflow_add-result
-overflow_add-result c = omega (arith, in_some c.loop-n.invariant.0 c.loop-n.n)
-
-pub shape_of-out : goal.shape_of-out
-shape_of-out c = simp length-set c.loop-n.invariant.2
 
 pub returns : goal.returns
 returns c =
