@@ -4,121 +4,164 @@ use native.Mathlib.Omega.{arith}
 use mathlib.Core.Path.{◌≡◌, refl, sym, ap, ◌∙◌}
 use mathlib.Core.List.{List, [], ◌∷◌}
 use mathlib.Core.Bool.{cond}
-use borrow.Author.Tests.{lt-ltb, le-ltb, eq-eqb, ne_eqb}
-use lib.Dec.{ltb, eqb}
+use borrow.Author.Tests.{leb-true, leb-false, ltb-true, ltb-false, eqb-true, eqb-false, lt-ltb, le-ltb, eq-eqb, ne_eqb}
+use lib.Dec.{leb, ltb, eqb}
 use lib.ListN.{length, drop}
-use Rattle.model.specs.Outcome.{refused, done}
-use Rattle.shelf.specs.Walk.{Listing, list, lists}
+use Rattle.model.specs.Limits.{max_lists, max_shelf}
+use Rattle.model.specs.Outcome.{Outcome, refused, done}
+use Rattle.model.proofs.Lists.{split}
+use Rattle.shelf.specs.Walk.{Listing, list, onto}
 use Rattle.shelf.specs.Check.{checked}
 use Rattle.shelf.specs.Answers.{placed}
+use Rattle.shelf.specs.Cursor.{start, past, walk_step, lists_at, listing_at}
+use Rattle.shelf.specs.Step.{WalkStep}
+use Rattle.shelf.specs.Step as step
 use Rattle.shelf.specs.declared.walk.Place.{Place}
-use Rattle.shelf.proofs.Walks.{list-is, list-not, list-walked}
+use Rattle.shelf.specs.declared.walk.Walk.{Walk}
+use Rattle.shelf.proofs.Walks.{list-is, list-walked}
+use Rattle.shelf.proofs.Steps.{step_large, step_end, step_full, step-list, step-not, walk_start, turn, walk_end, walk-fault}
+use Rattle.shelf.proofs.Sounds.{sound-walk}
 use Rattle.change.specs.Seat.{seat_of}
 use Rattle.change.specs.declared.seat.Seat.TheVariants.{Taken, Free}
-use Rattle.change.proofs.Pieces.{not_stopped, lists_nil, lists_inv, checked-sound}
 
--- ---- a loop over the lists
+-- ---- where the walk stands
 
--- the list that was found at a place is the first of those that are left
-pub record Turn (n : ℕ) (s : List ℕ) (rest : List Listing) (p : Place) : Type 0 where
-  pub first : Listing
+-- a list that was found begins where the walk stood, and the walk stands at its end
+pub record Onward (s : List ℕ) (w : Walk) (p : Place) (next : Walk) : Type 0 where
+  pub starts : p.at ≡ w.at
+  pub ends : next.at ≡ p.next
+  pub some : p.at < p.next
+  pub within : p.next ≤ length s
+
+abbrev Tells : List ℕ → Walk → WalkStep → Type 0
+Tells s w (step.List p next) = Onward s w p next
+Tells s w step.End = length s ≤ w.at
+Tells s w (step.Fault k o) = Unit {0}
+
+module _ (s : List ℕ) (w : Walk) where
+  module _ (small : length s ≤ max_shelf) (some : w.at < length s) (z : w.left ≡ 0 → ⊥) where
+    tells_list : (r : Outcome Place) → placed (list w.floor w.at (drop w.at s)) ≡ r → Tells s w (walk_step s w)
+    tells_list (refused k o) e = rw (step-not s w small some z k o e) tt
+    tells_list (done p) e =
+        let o = list-is (list w.floor w.at (drop w.at s)) p e in
+        let k = list-walked w.floor w.at s o.0 o.1 in
+        let a : o.0.place.at ≡ p.at = ap (λ (x : Place). x.at) o.2 in
+        let n : o.0.place.next ≡ p.next = ap (λ (x : Place). x.next) o.2 in
+        let f : Onward s w p (past (w.left - 1) p) =
+        record { starts = omega (arith, k.start); ends = refl; some = omega (arith, k.start, k.above); within = omega (arith, k.within) } in
+        rw (step-list s w small some z p e) f
+
+  tells : Tells s w (walk_step s w)
+  tells =
+      split (leb (length s) max_shelf)
+      (λ e. let small = leb-true _ _ e in
+      split (ltb w.at (length s))
+      (λ f. let some = ltb-true _ _ f in
+      split (eqb w.left 0)
+      (λ g. let z : w.left ≡ 0 = eqb-true _ _ g in rw (step_full s w small some z) tt)
+      (λ g. tells_list small some (eqb-false _ _ g) (placed (list w.floor w.at (drop w.at s))) refl))
+      (λ f. let over = ltb-false _ _ f in rw (step_end s w small over) over))
+      (λ e. let h = leb-false _ _ e in rw (step_large s w h) tt)
+
+  pub onward : (p : Place) (next : Walk) → walk_step s w ≡ step.List p next → Onward s w p next
+  onward p next e = rw e at tells
+
+  pub at-end : walk_step s w ≡ step.End → length s ≤ w.at
+  at-end e = rw e at tells
+
+pub at-start : (w : Walk) → w ≡ start → w.at ≡ 0
+unfolding start
+at-start w e = ap (λ (x : Walk). x.at) e
+
+pub left_all : (w : Walk) → w ≡ start → w.left ≡ max_lists
+unfolding start
+left_all w e = ap (λ (x : Walk). x.left) e
+
+-- ---- the lists that are left of a sound shelf
+
+pub left-start : (s : List ℕ) (ls : List Listing) → checked s ≡ done ls → (w : Walk) → w ≡ start → lists_at s w ≡ done ls
+left-start s ls c w e = rw e (sym (walk_start s) ∙ (sound-walk s ls c).0)
+
+-- the list that was found is the first of them
+pub record First (s : List ℕ) (rest : List Listing) (p : Place) (next : Walk) : Type 0 where
   pub more : List Listing
-  pub is : rest ≡ first ∷ more
-  pub place : first.place ≡ p
-  pub left : lists (n - 1) (p.term + 1) p.next (drop p.next s) ≡ done more
+  pub is : rest ≡ listing_at s p ∷ more
+  pub left : lists_at s next ≡ done more
 
-pub turn-of : (n floor at : ℕ) (s : List ℕ) (rest : List Listing) (p : Place) → lists n floor at (drop at s) ≡ done rest → at < length s → placed (list floor at (drop at s)) ≡ done p → Turn n s rest p
-turn-of n floor at s [] p e lt q = absurd (omega (arith, lists_nil n floor at s e))
-turn-of n floor at s (l ∷ ms) p e lt q =
-    let i = lists_inv n floor at s l ms e in
-    let o = list-is (list floor at (drop at s)) p q in
-    let same : l ≡ o.0 = let z : done l ≡ done o.0 = sym i.reads ∙ o.1 in cc in
-    let at_p : l.place ≡ p = ap (λ (x : Listing). x.place) same ∙ o.2 in
-    record {
-      first = l;
-      more = ms;
-      is = refl;
-      place = at_p;
-      left = ap (λ (x : Place). lists (n - 1) (x.term + 1) x.next (drop x.next s)) (sym at_p) ∙ i.left;
-    }
+module _ (s : List ℕ) (w : Walk) (rest : List Listing) (e : lists_at s w ≡ done rest) where
+  pub first-of : (p : Place) (next : Walk) → walk_step s w ≡ step.List p next → First s rest p next
+  first-of p next q = go (lists_at s next) refl (sym (turn s w p next q).lists ∙ e)
+    where
+      go : (r : Outcome (List Listing)) → lists_at s next ≡ r → onto (listing_at s p) r ≡ done rest → First s rest p next
+      go (refused k o) f x = let z : ◌≡◌ {A = ℕ} 0 1 = cc in absurd (omega arith)
+      go (done more) f x = record { more = more; is = (cc); left = f }
 
--- the place of a list, as far as the code needs it
-pub list-onward : (floor at : ℕ) (s : List ℕ) (p : Place) → placed (list floor at (drop at s)) ≡ done p → (at < p.next) × (p.next ≤ length s)
-list-onward floor at s p q =
-    let o = list-is (list floor at (drop at s)) p q in
-    let w = list-walked floor at s o.0 o.1 in
-    let n : o.0.place.next ≡ p.next = ap (λ (x : Place). x.next) o.2 in
-    (omega (arith, w.above), omega (arith, w.within))
+  -- at its end none is left
+  pub none-left : walk_step s w ≡ step.End → rest ≡ []
+  none-left q = let f : done [] ≡ done rest = sym (walk_end s w q) ∙ e in cc
+
+  -- and no step is refused
+  pub no_fault : {C : Type 0} → (k o : ℕ) → walk_step s w ≡ step.Fault k o → C
+  no_fault k o q =
+      let f : refused k o ≡ done rest = sym (walk-fault s w k o q) ∙ e in
+      let z : ◌≡◌ {A = ℕ} 0 1 = cc in
+      absurd (omega arith)
 
 -- ---- the seat of term t: what is left is sought as the whole
 
-pub record Seating (s : List ℕ) (t : ℕ) (ls : List Listing) (floor at : ℕ) : Type 0 where
-  pub most : ℕ
+pub record Seating (s : List ℕ) (t : ℕ) (ls : List Listing) (w : Walk) : Type 0 where
   pub rest : List Listing
-  pub left : lists most floor at (drop at s) ≡ done rest
-  pub same : seat_of t at rest ≡ seat_of t 0 ls
+  pub left : lists_at s w ≡ done rest
+  pub same : seat_of t w.at rest ≡ seat_of t 0 ls
 
-pub seat_start : (s : List ℕ) (t : ℕ) (ls : List Listing) → checked s ≡ done ls → Seating s t ls 0 0
-seat_start s t ls e = record { most = 1024; rest = ls; left = (checked-sound s ls e).reads; same = refl }
+pub seat_start : (s : List ℕ) (t : ℕ) (ls : List Listing) → checked s ≡ done ls → (w : Walk) → w ≡ start → Seating s t ls w
+seat_start s t ls c w e = record { rest = ls; left = left-start s ls c w e; same = ap (λ (x : ℕ). seat_of t x ls) (at-start w e) }
 
-module _ (s : List ℕ) (t : ℕ) (ls : List Listing) (floor at : ℕ) (c : Seating s t ls floor at) where
-  pub seat_end : length s ≤ at → Free at ≡ seat_of t 0 ls
-  seat_end h = go c.rest c.left c.same
-    where
-      go : (rest : List Listing) → lists c.most floor at (drop at s) ≡ done rest → seat_of t at rest ≡ seat_of t 0 ls → Free at ≡ seat_of t 0 ls
-      go [] e q = q
-      go (l ∷ ms) e q = absurd (omega (arith, (lists_inv c.most floor at s l ms e).inside))
+module _ (s : List ℕ) (t : ℕ) (ls : List Listing) (w : Walk) (c : Seating s t ls w) where
+  pub seat_end : w.at ≤ length s → walk_step s w ≡ step.End → Free (length s) ≡ seat_of t 0 ls
+  seat_end h q =
+      let z : length s ≡ w.at = omega (arith, at-end s w q) in
+      ap Free z ∙ sym (ap (λ (x : List Listing). seat_of t w.at x) (none-left s w c.rest c.left q)) ∙ c.same
 
-  pub seat_never : {C : Type 0} → at < length s → (k o : ℕ) → placed (list floor at (drop at s)) ≡ refused k o → C
-  seat_never lt k o q = absurd (not_stopped c.most floor at s c.rest c.left lt k o (list-not (list floor at (drop at s)) k o q))
+  module _ (p : Place) (next : Walk) (q : walk_step s w ≡ step.List p next) where
+    turned : (m : First s c.rest p next) → seat_of t 0 ls ≡ cond (ltb t p.term) (Free w.at) (cond (eqb t p.term) (Taken p) (seat_of t p.next m.more))
+    turned m = sym c.same ∙ ap (λ (x : List Listing). seat_of t w.at x) m.is
 
-  module _ (p : Place) (lt : at < length s) (q : placed (list floor at (drop at s)) ≡ done p) where
-    turned : (m : Turn c.most s c.rest p) → seat_of t 0 ls ≡ cond (ltb t p.term) (Free at) (cond (eqb t p.term) (Taken p) (seat_of t p.next m.more))
-    turned m = sym c.same ∙ ap (λ (x : List Listing). seat_of t at x) m.is ∙ ap (λ (x : Place). cond (ltb t x.term) (Free at) (cond (eqb t x.term) (Taken x) (seat_of t x.next m.more))) m.place
-
-    pub seat_before : t < p.term → Free at ≡ seat_of t 0 ls
+    pub seat_before : t < p.term → Free p.at ≡ seat_of t 0 ls
     seat_before h =
-        let m = turn-of c.most floor at s c.rest p c.left lt q in
-        sym (turned m ∙ rw (lt-ltb t p.term h))
+        let m = first-of s w c.rest c.left p next q in
+        ap Free (onward s w p next q).starts ∙ sym (turned m ∙ rw (lt-ltb t p.term h))
 
     pub seat_here : t ≡ p.term → Taken p ≡ seat_of t 0 ls
     seat_here h =
-        let m = turn-of c.most floor at s c.rest p c.left lt q in
+        let m = first-of s w c.rest c.left p next q in
         sym (turned m ∙ rw (le-ltb t p.term (omega arith), eq-eqb t p.term h))
 
-    pub seat_on : p.term < t → Seating s t ls (p.term + 1) p.next
+    pub seat_on : p.term < t → Seating s t ls next
     seat_on h =
-        let m = turn-of c.most floor at s c.rest p c.left lt q in
+        let m = first-of s w c.rest c.left p next q in
         record {
-          most = c.most - 1;
           rest = m.more;
           left = m.left;
-          same = sym (turned m ∙ rw (le-ltb t p.term (omega arith), ne_eqb t p.term (λ (z : t ≡ p.term). omega arith)));
+          same = ap (λ (x : ℕ). seat_of t x m.more) (onward s w p next q).ends
+              ∙ sym (turned m ∙ rw (le-ltb t p.term (omega arith), ne_eqb t p.term (λ (z : t ≡ p.term). omega arith)));
         }
 
 -- ---- the number of lists
 
-pub record Counting (s : List ℕ) (ls : List Listing) (floor at k : ℕ) : Type 0 where
-  pub most : ℕ
+pub record Counting (s : List ℕ) (ls : List Listing) (w : Walk) (n : ℕ) : Type 0 where
   pub rest : List Listing
-  pub left : lists most floor at (drop at s) ≡ done rest
-  pub count : k + length rest ≡ length ls
+  pub left : lists_at s w ≡ done rest
+  pub count : n + length rest ≡ length ls
 
-pub count-start : (s : List ℕ) (ls : List Listing) → checked s ≡ done ls → Counting s ls 0 0 0
-count-start s ls e = record { most = 1024; rest = ls; left = (checked-sound s ls e).reads; count = omega arith }
+pub count-start : (s : List ℕ) (ls : List Listing) → checked s ≡ done ls → (w : Walk) → w ≡ start → Counting s ls w 0
+count-start s ls c w e = record { rest = ls; left = left-start s ls c w e; count = omega arith }
 
-module _ (s : List ℕ) (ls : List Listing) (floor at k : ℕ) (c : Counting s ls floor at k) where
-  pub count-end : length s ≤ at → k ≡ length ls
-  count-end h = go c.rest c.left c.count
-    where
-      go : (rest : List Listing) → lists c.most floor at (drop at s) ≡ done rest → k + length rest ≡ length ls → k ≡ length ls
-      go [] e q = omega arith
-      go (l ∷ ms) e q = absurd (omega (arith, (lists_inv c.most floor at s l ms e).inside))
+module _ (s : List ℕ) (ls : List Listing) (w : Walk) (n : ℕ) (c : Counting s ls w n) where
+  pub count-end : walk_step s w ≡ step.End → n ≡ length ls
+  count-end q = omega (arith, c.count, ap length (none-left s w c.rest c.left q))
 
-  pub count-never : {C : Type 0} → at < length s → (n o : ℕ) → placed (list floor at (drop at s)) ≡ refused n o → C
-  count-never lt n o q = absurd (not_stopped c.most floor at s c.rest c.left lt n o (list-not (list floor at (drop at s)) n o q))
-
-  pub count-on : (p : Place) → at < length s → placed (list floor at (drop at s)) ≡ done p → Counting s ls (p.term + 1) p.next (k + 1)
-  count-on p lt q =
-      let m = turn-of c.most floor at s c.rest p c.left lt q in
-      record { most = c.most - 1; rest = m.more; left = m.left; count = omega (arith, c.count, ap length m.is) }
+  pub count-on : (p : Place) (next : Walk) → walk_step s w ≡ step.List p next → Counting s ls next (n + 1)
+  count-on p next q =
+      let m = first-of s w c.rest c.left p next q in
+      record { rest = m.more; left = m.left; count = omega (arith, c.count, ap length m.is) }

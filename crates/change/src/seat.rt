@@ -5,7 +5,7 @@ ghost use Rattle.shelf.specs.Walk.{Listing};
 ghost use Rattle.shelf.specs.Check.{checked};
 ghost use Rattle.change.specs.Seat.{Sounds, seat_of, Fills, Held, strip_by, Stood};
 
-use shelf::walk::Place;
+use shelf::walk::{Place, Walk};
 
 // The list itself; or the place where it would begin. No `Option` or `Result`: both carry a place, and neither is a failure.
 #[derive(Clone, Copy)]
@@ -19,26 +19,16 @@ pub fn find_seat(s: &[u8], term: u32) -> Seat
     requires { Sounds s.now }
     ensures { (ls : List Listing) → checked s.now ≡ done ls → result ≡ seat_of term 0 ls }
 {
-    let mut at: usize = 0;
-    let mut floor: u64 = 0;
-    while at < s.len() {
-        match shelf::walk::list_at(s, at, floor) {
-            Ok(p) => {
-                if term < p.term {
-                    return Seat::Free(at);
-                }
-                if term == p.term {
-                    return Seat::Taken(p);
-                }
-                at = p.next;
-                floor = p.term as u64 + 1;
-            }
-            Err(r) => {
-                return Seat::Free(at);
-            }
+    let mut lists = Walk::new();
+    while let Ok(Some(list)) = lists.next(s) {
+        if term < list.term {
+            return Seat::Free(list.at);
+        }
+        if term == list.term {
+            return Seat::Taken(list);
         }
     }
-    Seat::Free(at)
+    Seat::Free(s.len())
 }
 
 // How many lists a sound shelf has.
@@ -46,20 +36,10 @@ pub(crate) fn lists_in(s: &[u8]) -> usize
     requires { Sounds s.now }
     ensures { (ls : List Listing) → checked s.now ≡ done ls → result ≡ length ls }
 {
-    let mut at: usize = 0;
-    let mut floor: u64 = 0;
+    let mut lists = Walk::new();
     let mut n: usize = 0;
-    while at < s.len() {
-        match shelf::walk::list_at(s, at, floor) {
-            Ok(p) => {
-                at = p.next;
-                floor = p.term as u64 + 1;
-                n += 1;
-            }
-            Err(r) => {
-                return n;
-            }
-        }
+    while let Ok(Some(list)) = lists.next(s) {
+        n += 1;
     }
     n
 }

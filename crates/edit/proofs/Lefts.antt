@@ -14,12 +14,14 @@ use Rattle.model.specs.Post.{Post, postings, docs, scores}
 use Rattle.model.specs.Runs.{has, Stored, Bytes}
 use Rattle.model.proofs.Lists.{split, or_false, or_assoc}
 use Rattle.model.proofs.Storing.{Rest, rest-start, rest-turn, rest_end, rest-room}
-use Rattle.shelf.specs.Walk.{Listing, list, lists, posts_of, blocks_at, strip_of}
+use Rattle.shelf.specs.Walk.{Listing, blocks_at}
 use Rattle.shelf.specs.Check.{bad_body, bad_lists, checked}
-use Rattle.shelf.specs.Answers.{placed}
+use Rattle.shelf.specs.Cursor.{start, walk_step, lists_at, listing_at}
+use Rattle.shelf.specs.Step as step
 use Rattle.shelf.specs.declared.walk.Place.{Place}
+use Rattle.shelf.specs.declared.walk.Walk.{Walk}
 use Rattle.std.specs.Prelude.{None}
-use Rattle.shelf.proofs.Walks.{list-is, list-not, list-walked}
+use Rattle.shelf.proofs.Steps.{turn}
 use Rattle.shelf.proofs.Sounds.{or_none}
 use Rattle.list.specs.Write.{Writable, Words, words_of}
 use Rattle.list.specs.Fill.{Filled}
@@ -33,7 +35,8 @@ use Rattle.edit.specs.Left.{posts_at, layout_at, Sought, Sized, left_bytes, Left
 use Rattle.edit.specs.declared.withdraw.Left.{Left}
 use Rattle.change.proofs.Postings.{may-fit, clear-fit, clear-length}
 use Rattle.change.proofs.Runnings.{Runs, postings-own, clears_runs}
-use Rattle.change.proofs.Pieces.{not_stopped, lists_nil, lists_inv, checked-sound, sound-lists, sound-rises}
+use Rattle.change.proofs.Pieces.{checked-sound, sound-lists, sound-rises}
+use Rattle.change.proofs.Seats.{onward, left-start, first-of, none-left}
 use Rattle.edit.proofs.Changes.{rises-few}
 use Rattle.edit.proofs.Splices.{settled-none, settled_as, joined-unless, few-unless, length-unless, pieces-length, few-front}
 use Rattle.change.proofs.News.{held-taken, held-runs, new-small}
@@ -93,19 +96,19 @@ module _ (s : List ℕ) (p : Place) (d : ℕ) where
 
 -- ---- the lists that are left
 
-pub record Going (s : List ℕ) (floor at : ℕ) (rest : List Listing) : Type 0 where
-  pub most : ℕ
-  pub left : lists most floor at (drop at s) ≡ done rest
+pub record Going (s : List ℕ) (w : Walk) (rest : List Listing) : Type 0 where
+  pub left : lists_at s w ≡ done rest
   pub right : bad_lists rest ≡ None
-  pub words : Words floor (words_of rest)
+  pub words : Words w.floor (words_of rest)
 
-pub going_start : (s : List ℕ) (ls : List Listing) → Bytes s → checked s ≡ done ls → Going s 0 0 ls
-going_start s ls b e = let o = checked-sound s ls e in record { most = 1024; left = o.reads; right = o.right; words = sound-words s ls b e }
+pub going_start : (s : List ℕ) (ls : List Listing) → Bytes s → checked s ≡ done ls → (w : Walk) → w ≡ start → Going s w ls
+unfolding start
+going_start s ls b c w e = record { left = left-start s ls c w e; right = (checked-sound s ls c).right; words = rw e (sound-words s ls b c) }
 
 -- the list that was found: its bytes with docid d cleared come first, and the others follow
-pub record Goes (s : List ℕ) (d : ℕ) (rest : List Listing) (p : Place) : Type 0 where
+pub record Goes (s : List ℕ) (d : ℕ) (rest : List Listing) (p : Place) (next : Walk) : Type 0 where
   pub more : List Listing
-  pub going : Going s (p.term + 1) p.next more
+  pub going : Going s next more
   pub ready : (ds ss : List ℕ) → Wide ds ss → Sized s p ds ss
   pub bytes : joined (clear_pieces every d (pieces s rest)) ≡ left_bytes s p d ++ joined (clear_pieces every d (pieces s more))
   pub seen : some (holds every d) (pieces s rest) ≡ (has d (docs (posts_at s p)) || some (holds every d) (pieces s more))
@@ -121,105 +124,87 @@ first-bytes s d x p xs t ps lay bs =
     let g : has d (docs x.posts) ≡ false = rw ps h in
     rw (g, h, bs))
 
-going_on : (floor at : ℕ) (s : List ℕ) (d : ℕ) (rest : List Listing) (p : Place) → Going s floor at rest → at < length s → placed (list floor at (drop at s)) ≡ done p → Goes s d rest p
-going_on floor at s d [] p g lt q = absurd (omega (arith, lists_nil g.most floor at s g.left))
-going_on floor at s d (l ∷ ms) p g lt q =
-    let i = lists_inv g.most floor at s l ms g.left in
-    let k = list-is (list floor at (drop at s)) p q in
-    let same : l ≡ k.0 = let z : done l ≡ done k.0 = sym i.reads ∙ k.1 in cc in
-    let at_p : l.place ≡ p = ap (λ (x : Listing). x.place) same ∙ k.2 in
-    let w = list-walked floor at s l i.reads in
-    let o = or_none (bad_body l.blocks) (bad_lists ms) g.right in
-    let bl : l.blocks ≡ blocks_at s l.place.at l.place.count = rw w.start w.blocks in
-    let ps : posts_of l.blocks ≡ posts_at s l.place = ap {B = List Post} posts_of bl in
-    let good : bad_body (blocks_at s l.place.at l.place.count) ≡ None = rw bl at o.0 in
-    let may : Writable (posts_at s l.place) = rw bl at g.words.2 in
-    let n = right-count (blocks_at s l.place.at l.place.count) good in
-    subst (λ (x : Place). Goes s d (l ∷ ms) x) at_p
+going_on : (s : List ℕ) (d : ℕ) (w next : Walk) (rest : List Listing) (p : Place) → Going s w rest → walk_step s w ≡ step.List p next → Goes s d rest p next
+going_on s d w next rest p g q =
+    let m = first-of s w rest g.left p next q in
+    let t = turn s w p next q in
+    let k = onward s w p next q in
+    let bs = blocks_at s p.at p.count in
+    let words : Words w.floor (words_of (listing_at s p ∷ m.more)) = rw m.is at g.words in
+    let right : bad_lists (listing_at s p ∷ m.more) ≡ None = rw m.is at g.right in
+    let o = or_none (bad_body bs) (bad_lists m.more) right in
+    let may : Writable (posts_at s p) = words.2 in
+    let n = right-count bs o.0 in
+    subst (λ (x : List Listing). Goes s d x p next) (sym m.is)
     (record {
-      more = ms;
-      going = record { most = g.most - 1; left = i.left; right = o.1; words = g.words.3 };
+      more = m.more;
+      going = record { left = m.left; right = o.1; words = subst (λ (x : ℕ). Words x (words_of m.more)) (sym t.above) words.3 };
       ready = λ ds ss v. record {
-        fills = record { ready = w.ready; right = good; roomy = omega (arith, may.few, v.docids); wide = omega (arith, may.few, v.scored) };
+        fills = record { ready = t.ready; right = o.0; roomy = omega (arith, may.few, v.docids); wide = omega (arith, may.few, v.scored) };
         may = may;
-        order = omega (arith, w.start, w.above);
-        inside = w.within;
+        order = omega (arith, k.some);
+        inside = k.within;
       };
-      bytes = first-bytes s d (piece_of s l) l.place (pieces s ms) refl ps (ap strip_of bl) refl;
-      seen = rw ps;
+      bytes = first-bytes s d (piece_of s (listing_at s p)) p (pieces s m.more) refl refl refl refl;
+      seen = refl;
     })
-
-pub list-starts : (floor at : ℕ) (s : List ℕ) (p : Place) → placed (list floor at (drop at s)) ≡ done p → p.at ≡ at
-list-starts floor at s p q =
-    let o = list-is (list floor at (drop at s)) p q in
-    sym (ap (λ (x : Place). x.at) o.2) ∙ (list-walked floor at s o.0 o.1).start
 
 -- ---- adding up
 
-pub record Adding (s : List ℕ) (d : ℕ) (ls : List Listing) (floor at bytes : ℕ) (held : Bool) : Type 0 where
+pub record Adding (s : List ℕ) (d : ℕ) (ls : List Listing) (w : Walk) (bytes : ℕ) (held : Bool) : Type 0 where
   pub rest : List Listing
-  pub going : Going s floor at rest
+  pub going : Going s w rest
   pub sum : bytes + length (joined (clear_pieces every d (pieces s rest))) ≡ length (joined (clear_pieces every d (pieces s ls)))
   pub seen : (held || some (holds every d) (pieces s rest)) ≡ some (holds every d) (pieces s ls)
 
-pub add_start : (s : List ℕ) (d : ℕ) (ls : List Listing) → Bytes s → checked s ≡ done ls → Adding s d ls 0 0 0 false
-add_start s d ls b e = record { rest = ls; going = going_start s ls b e; sum = omega arith; seen = refl }
+pub add_start : (s : List ℕ) (d : ℕ) (ls : List Listing) → Bytes s → checked s ≡ done ls → (w : Walk) → w ≡ start → Adding s d ls w 0 false
+add_start s d ls b c w e = record { rest = ls; going = going_start s ls b c w e; sum = omega arith; seen = refl }
 
-module _ (s : List ℕ) (d : ℕ) (ls : List Listing) (floor at bytes : ℕ) (held : Bool) (c : Adding s d ls floor at bytes held) where
-  pub add-end : length s ≤ at → Measures s d ls (record { bytes = bytes; held = held })
-  add-end h = go c.rest c.going.left c.sum c.seen
-    where
-      go : (rest : List Listing) → lists c.going.most floor at (drop at s) ≡ done rest → bytes + length (joined (clear_pieces every d (pieces s rest))) ≡ length (joined (clear_pieces every d (pieces s ls))) →
-          (held || some (holds every d) (pieces s rest)) ≡ some (holds every d) (pieces s ls) → Measures s d ls (record { bytes = bytes; held = held })
-      go [] e x y = record { bytes = omega arith; held = sym (or_false held) ∙ y }
-      go (l ∷ ms) e x y = absurd (omega (arith, (lists_inv c.going.most floor at s l ms e).inside))
-
-  pub add-never : {C : Type 0} → at < length s → (k o : ℕ) → placed (list floor at (drop at s)) ≡ refused k o → C
-  add-never lt k o q = absurd (not_stopped c.going.most floor at s c.rest c.going.left lt k o (list-not (list floor at (drop at s)) k o q))
-
-  pub add_goes : (p : Place) → at < length s → placed (list floor at (drop at s)) ≡ done p → Goes s d c.rest p
-  add_goes p lt q = going_on floor at s d c.rest p c.going lt q
-
-  pub add-on : (p : Place) (l : Left) → at < length s → placed (list floor at (drop at s)) ≡ done p → LeftOf s p d l → Adding s d ls (p.term + 1) p.next (bytes + l.bytes) (held || l.held)
-  add-on p l lt q f =
-      let g = add_goes p lt q in
+module _ (s : List ℕ) (d : ℕ) (ls : List Listing) (w : Walk) (bytes : ℕ) (held : Bool) (c : Adding s d ls w bytes held) where
+  pub add-end : walk_step s w ≡ step.End → Measures s d ls (record { bytes = bytes; held = held })
+  add-end q =
+      let z = none-left s w c.rest c.going.left q in
       record {
-        rest = g.more;
-        going = g.going;
-        sum = omega (arith, c.sum, ap length g.bytes, length-append (left_bytes s p d) (joined (clear_pieces every d (pieces s g.more))), f.bytes);
-        seen = or_assoc held l.held (some (holds every d) (pieces s g.more)) ∙ rw (f.held, ← g.seen) c.seen;
+        bytes = omega (arith, c.sum, ap (λ (x : List Listing). length (joined (clear_pieces every d (pieces s x)))) z);
+        held = sym (or_false held) ∙ ap (λ (x : List Listing). held || some (holds every d) (pieces s x)) (sym z) ∙ c.seen;
       }
+
+  module _ (p : Place) (next : Walk) (q : walk_step s w ≡ step.List p next) where
+    pub add_goes : Goes s d c.rest p next
+    add_goes = going_on s d w next c.rest p c.going q
+
+    pub add-on : (l : Left) → LeftOf s p d l → Adding s d ls next (bytes + l.bytes) (held || l.held)
+    add-on l f =
+        let g = add_goes in
+        record {
+          rest = g.more;
+          going = g.going;
+          sum = omega (arith, c.sum, ap length g.bytes, length-append (left_bytes s p d) (joined (clear_pieces every d (pieces s g.more))), f.bytes);
+          seen = or_assoc held l.held (some (holds every d) (pieces s g.more)) ∙ rw (f.held, ← g.seen) c.seen;
+        }
 
 -- ---- writing
 
-pub record Putting (s : List ℕ) (d : ℕ) (ls : List Listing) (l m : List ℕ) (floor at j : ℕ) : Type 0 where
+pub record Putting (s : List ℕ) (d : ℕ) (ls : List Listing) (l m : List ℕ) (w : Walk) (j : ℕ) : Type 0 where
   pub rest : List Listing
-  pub going : Going s floor at rest
+  pub going : Going s w rest
   pub todo : Rest l m 0 j (joined (clear_pieces every d (pieces s ls))) (joined (clear_pieces every d (pieces s rest)))
 
-pub put_start : (s : List ℕ) (d : ℕ) (ls : List Listing) (l : List ℕ) → Bytes s → checked s ≡ done ls → Putting s d ls l l 0 0 0
-put_start s d ls l b e = record { rest = ls; going = going_start s ls b e; todo = rest-start l 0 (joined (clear_pieces every d (pieces s ls))) }
+pub put_start : (s : List ℕ) (d : ℕ) (ls : List Listing) (l : List ℕ) → Bytes s → checked s ≡ done ls → (w : Walk) → w ≡ start → Putting s d ls l l w 0
+put_start s d ls l b c w e = record { rest = ls; going = going_start s ls b c w e; todo = rest-start l 0 (joined (clear_pieces every d (pieces s ls))) }
 
-module _ (s : List ℕ) (d : ℕ) (ls : List Listing) (l m : List ℕ) (floor at j : ℕ) (c : Putting s d ls l m floor at j) where
-  pub put_end : length s ≤ at → Stored l m 0 j (joined (clear_pieces every d (pieces s ls)))
-  put_end h = go c.rest c.going.left c.todo
-    where
-      go : (rest : List Listing) → lists c.going.most floor at (drop at s) ≡ done rest → Rest l m 0 j (joined (clear_pieces every d (pieces s ls))) (joined (clear_pieces every d (pieces s rest))) →
-          Stored l m 0 j (joined (clear_pieces every d (pieces s ls)))
-      go [] e x = rest_end refl x
-      go (k ∷ ms) e x = absurd (omega (arith, (lists_inv c.going.most floor at s k ms e).inside))
+module _ (s : List ℕ) (d : ℕ) (ls : List Listing) (l m : List ℕ) (w : Walk) (j : ℕ) (c : Putting s d ls l m w j) where
+  pub put_end : walk_step s w ≡ step.End → Stored l m 0 j (joined (clear_pieces every d (pieces s ls)))
+  put_end q = rest_end (ap (λ (x : List Listing). joined (clear_pieces every d (pieces s x))) (none-left s w c.rest c.going.left q)) c.todo
 
-  pub put_never : {C : Type 0} → at < length s → (k o : ℕ) → placed (list floor at (drop at s)) ≡ refused k o → C
-  put_never lt k o q = absurd (not_stopped c.going.most floor at s c.rest c.going.left lt k o (list-not (list floor at (drop at s)) k o q))
-
-  module _ (p : Place) (lt : at < length s) (q : placed (list floor at (drop at s)) ≡ done p) where
-    pub put_goes : Goes s d c.rest p
-    put_goes = going_on floor at s d c.rest p c.going lt q
+  module _ (p : Place) (next : Walk) (q : walk_step s w ≡ step.List p next) where
+    pub put_goes : Goes s d c.rest p next
+    put_goes = going_on s d w next c.rest p c.going q
 
     pub put_room : length (joined (clear_pieces every d (pieces s ls))) ≤ length l → j + length (left_bytes s p d) ≤ length m
     put_room h = rest-room (left_bytes s p d) (joined (clear_pieces every d (pieces s put_goes.more))) put_goes.bytes c.todo (omega arith)
 
-    pub put_on : (o : List ℕ) (r : ℕ) → Stored m o j r (left_bytes s p d) → Putting s d ls l o (p.term + 1) p.next r
+    pub put_on : (o : List ℕ) (r : ℕ) → Stored m o j r (left_bytes s p d) → Putting s d ls l o next r
     put_on o r f = record { rest = put_goes.more; going = put_goes.going; todo = rest-turn (left_bytes s p d) (joined (clear_pieces every d (pieces s put_goes.more))) put_goes.bytes c.todo f }
 
 -- ---- the edit

@@ -12,7 +12,7 @@ ghost use Rattle.edit.specs.Left.{Sized, LeftOf, left_bytes, Measures};
 
 use change::seat::Seat;
 use model::refusal::{Fault, Refusal};
-use shelf::walk::Place;
+use shelf::walk::{Place, Walk};
 
 // How many bytes are left, and whether the docid was held.
 #[derive(Drop)]
@@ -70,23 +70,13 @@ fn measure(s: &[u8], d: u32, docs: &mut [u32], scores: &mut [u16]) -> Left
     requires { Sounds s.now × Wide docs.old scores.old }
     ensures { (ls : List Listing) → checked s.now ≡ done ls → Measures s.now d ls result }
 {
-    let mut at: usize = 0;
-    let mut floor: u64 = 0;
+    let mut lists = Walk::new();
     let mut bytes: usize = 0;
     let mut held = false;
-    while at < s.len() {
-        match shelf::walk::list_at(s, at, floor) {
-            Ok(p) => {
-                let l = list_left(s, p, d, docs, scores);
-                bytes += l.bytes;
-                held = held | l.held;
-                at = p.next;
-                floor = p.term as u64 + 1;
-            }
-            Err(r) => {
-                return Left { bytes, held };
-            }
-        }
+    while let Ok(Some(list)) = lists.next(s) {
+        let l = list_left(s, list, d, docs, scores);
+        bytes += l.bytes;
+        held = held | l.held;
     }
     Left { bytes, held }
 }
@@ -96,20 +86,10 @@ fn put_all(s: &[u8], d: u32, docs: &mut [u32], scores: &mut [u16], out: &mut [u8
     requires { Sounds s.now × Wide docs.old scores.old × ((ls : List Listing) → checked s.now ≡ done ls → length (joined (clear_pieces every d (pieces s.now ls))) ≤ length out.old) }
     ensures { (ls : List Listing) → checked s.now ≡ done ls → Stored out.old out.new 0 result (joined (clear_pieces every d (pieces s.now ls))) }
 {
-    let mut at: usize = 0;
-    let mut floor: u64 = 0;
+    let mut lists = Walk::new();
     let mut j: usize = 0;
-    while at < s.len() {
-        match shelf::walk::list_at(s, at, floor) {
-            Ok(p) => {
-                j = put_left(s, p, d, docs, scores, out, j);
-                at = p.next;
-                floor = p.term as u64 + 1;
-            }
-            Err(r) => {
-                return j;
-            }
-        }
+    while let Ok(Some(list)) = lists.next(s) {
+        j = put_left(s, list, d, docs, scores, out, j);
     }
     j
 }

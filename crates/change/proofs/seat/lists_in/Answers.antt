@@ -1,40 +1,39 @@
 -- `change::seat::lists_in` meets its contract. The invariant: the lists counted and those left are all (`Seats`). Assumes nothing.
-use lib.ListN.{drop, length}
-use Prim.Native.Nat.{◌<◌, ◌≤◌}
-use Rattle.shelf.specs.Walk.{list}
-use Rattle.shelf.specs.Answers.{placed}
-use Rattle.model.specs.Outcome.{refused, done}
-use Rattle.model.specs.Refusal.{number}
 use native.Mathlib.Omega.{arith}
-use mathlib.Core.Path.{◌≡◌, sym}
-use Rattle.change.proofs.Seats.{list-onward, count-start, count-end, count-never, count-on}
+use mathlib.Core.Path.{◌≡◌}
+use Rattle.std.specs.Prelude.{None, Ok}
+use Rattle.model.specs.Refusal.{number}
+use Rattle.shelf.proofs.Steps.{turn}
+use Rattle.change.proofs.Seats.{left_all, no_fault, count-start, count-end, count-on}
 use Rattle.change.proofs.seat.lists_in.Goals as goal
 
-pub loop-at-init : goal.loop-at-init
-loop-at-init c = (omega arith, omega arith, λ ls e. count-start c.args.s.now ls e)
+pub loop-list-init : goal.loop-list-init
+loop-list-init c =
+    let w = c.new-lists in
+    (omega (arith, left_all w.result w.ensures), λ ls e. count-start c.args.s.now ls e w.result w.ensures)
 
-pub loop-at-smaller : goal.loop-at-smaller
-loop-at-smaller c =
-    let found : placed (list c.loop-at.floor c.loop-at.at (drop c.loop-at.at c.args.s.now)) ≡ done c.in-Ok.p = sym c.in-Ok.ensures in
-    let onward : (c.loop-at.at < c.in-Ok.p.next) × (c.in-Ok.p.next ≤ length c.args.s.now) = let l = c.loop-at in
-    list-onward l.floor l.at c.args.s.now c.in-Ok.p (found) in
-    omega (arith, (onward).0, (onward).1)
+pub overflow_add-n : goal.overflow_add-n
+overflow_add-n c =
+    let t = turn c.args.s.now c.loop-list.lists c.in-Ok-Some.list c.next.new.self (rw c.in-Ok-Some.field-0-is at c.in-Ok-Some.ensures) in
+    omega (arith, c.loop-list.invariant.0, t.fewer)
 
-pub loop-at-preserved : goal.loop-at-preserved
-loop-at-preserved c =
-    let found : placed (list c.loop-at.floor c.loop-at.at (drop c.loop-at.at c.args.s.now)) ≡ done c.in-Ok.p = sym c.in-Ok.ensures in
-    let onward : (c.loop-at.at < c.in-Ok.p.next) × (c.in-Ok.p.next ≤ length c.args.s.now) = let l = c.loop-at in
-    list-onward l.floor l.at c.args.s.now c.in-Ok.p (found) in
-    let l = c.loop-at in
-    (omega (arith, (onward).0, l.invariant.0), (onward).1, λ ls e. count-on c.args.s.now ls l.floor l.at l.n (l.invariant.2 ls e) c.in-Ok.p c.loop-at-test.true (found))
+pub loop-list-smaller : goal.loop-list-smaller
+loop-list-smaller c = (turn c.args.s.now c.loop-list.lists c.in-Ok-Some.list c.next.new.self (rw c.in-Ok-Some.field-0-is at c.in-Ok-Some.ensures)).fewer
 
-pub returns-in-Err : goal.returns-in-Err
-returns-in-Err c =
-    let l = c.loop-at in
-    let f : placed (list l.floor l.at (drop l.at c.args.s.now)) ≡ refused (number c.in-Err.r.fault) c.in-Err.r.offset = sym c.in-Err.ensures in
-    λ ls e. count-never c.args.s.now ls l.floor l.at l.n (l.invariant.2 ls e) c.loop-at-test.true (number c.in-Err.r.fault) c.in-Err.r.offset f
+pub loop-list-preserved : goal.loop-list-preserved
+loop-list-preserved c =
+    let l = c.loop-list in
+    let t = turn c.args.s.now l.lists c.in-Ok-Some.list c.next.new.self (rw c.in-Ok-Some.field-0-is at c.in-Ok-Some.ensures) in
+    (omega (arith, l.invariant.0, t.fewer), λ ls e. count-on c.args.s.now ls l.lists l.n (l.invariant.1 ls e) c.in-Ok-Some.list c.next.new.self (rw c.in-Ok-Some.field-0-is at c.in-Ok-Some.ensures))
 
-pub returns : goal.returns
-returns c =
-    let l = c.loop-at in
-    λ ls e. count-end c.args.s.now ls l.floor l.at l.n (l.invariant.2 ls e) c.loop-at-test.false
+pub returns-in_default : goal.returns-in_default
+returns-in_default c =
+    let l = c.loop-list in
+    let none : c.next.result ≡ Ok None = cc in
+    λ ls e. count-end c.args.s.now ls l.lists l.n (l.invariant.1 ls e) (rw none at c.next.ensures)
+
+pub returns-in_default-2 : goal.returns-in_default-2
+returns-in_default-2 c =
+    let l = c.loop-list in
+    let r = c.in_default.field-0 in
+    λ ls e. no_fault c.args.s.now l.lists (l.invariant.1 ls e).rest (l.invariant.1 ls e).left (number r.fault) r.offset (rw c.in_default.is at c.next.ensures)
