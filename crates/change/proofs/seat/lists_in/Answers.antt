@@ -30,10 +30,10 @@ pub returns-in_default : goal.returns-in_default
 returns-in_default c =
     let l = c.loop-list in
     let none : c.next.result ≡ Ok None = cc in
-    λ ls e. count-end c.args.s.now ls l.lists l.n (l.invariant.1 ls e) (rw none at c.next.ensures)
+    λ ls e. count-end c.args.s.now ls l.lists l.n (l.invariant.1 ls e) (rw none at c.next.ensures).0
 
 pub returns-in_default-2 : goal.returns-in_default-2
 returns-in_default-2 c =
     let l = c.loop-list in
     let r = c.in_default.field-0 in
-    λ ls e. no_fault c.args.s.now l.lists (l.invariant.1 ls e).rest (l.invariant.1 ls e).left (number r.fault) r.offset (rw c.in_default.is at c.next.ensures)
+    λ ls e. no_fault c.args.s.now l.lists (l.invariant.1 ls e).rest (l.invariant.1 ls e).left (number r.fault) r.offset (rw c.in_default.is at c.next.ensures).0

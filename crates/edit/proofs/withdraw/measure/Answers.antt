@@ -65,10 +65,10 @@ pub returns-in_default : goal.returns-in_default
 returns-in_default c =
     let l = c.loop-list in
     let none : c.next.result ≡ Ok None = cc in
-    λ ls e. add-end c.args.s.now c.args.d ls l.lists l.bytes l.held (l.invariant.3 ls e) (rw none at c.next.ensures)
+    λ ls e. add-end c.args.s.now c.args.d ls l.lists l.bytes l.held (l.invariant.3 ls e) (rw none at c.next.ensures).0
 
 pub returns-in_default-2 : goal.returns-in_default-2
 returns-in_default-2 c =
     let l = c.loop-list in
     let r = c.in_default.field-0 in
-    λ ls e. no_fault c.args.s.now l.lists (l.invariant.3 ls e).rest (l.invariant.3 ls e).going.left (number r.fault) r.offset (rw c.in_default.is at c.next.ensures)
+    λ ls e. no_fault c.args.s.now l.lists (l.invariant.3 ls e).rest (l.invariant.3 ls e).going.left (number r.fault) r.offset (rw c.in_default.is at c.next.ensures).0

@@ -48,7 +48,7 @@ returns-in_default c =
     let a = c.args in
     let l = c.loop-list in
     let none : c.next.result ≡ Ok None = cc in
-    λ ls e. put_end a.s.now a.d ls a.out.now l.out l.lists l.j (l.invariant.1 ls e) (rw none at c.next.ensures)
+    λ ls e. put_end a.s.now a.d ls a.out.now l.out l.lists l.j (l.invariant.1 ls e) (rw none at c.next.ensures).0
 
 pub shape_of-out-in_default-2 : goal.shape_of-out-in_default-2
 shape_of-out-in_default-2 c = omega (arith, c.loop-list.invariant.2)
@@ -57,4 +57,4 @@ pub returns-in_default-2 : goal.returns-in_default-2
 returns-in_default-2 c =
     let l = c.loop-list in
     let r = c.in_default.field-0 in
-    λ ls e. no_fault c.args.s.now l.lists (l.invariant.1 ls e).rest (l.invariant.1 ls e).going.left (number r.fault) r.offset (rw c.in_default.is at c.next.ensures)
+    λ ls e. no_fault c.args.s.now l.lists (l.invariant.1 ls e).rest (l.invariant.1 ls e).going.left (number r.fault) r.offset (rw c.in_default.is at c.next.ensures).0
