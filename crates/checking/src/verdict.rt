@@ -36,11 +36,5 @@ fn show(shelf: &[u8], out: &mut [u8]) -> usize
 pub fn respond(shelf: Option<&[u8]>, out: &mut [u8], err: &mut [u8]) -> Said
     ensures { Speaks (codes "checker") (is_some shelf.entry) (checked_text (input_of shelf.entry)) out.old err.old out.new err.new result }
 {
-    match lines::said::begin(b"checker", shelf, out.len(), err) {
-        Ok(bytes) => Said {
-            out: show(bytes, out),
-            err: 0,
-        },
-        Err(n) => Said { out: 0, err: n },
-    }
+    lines::said::respond(b"checker", shelf, out, err, show)
 }

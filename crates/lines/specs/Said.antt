@@ -1,6 +1,7 @@
 -- What a program says for its input: to standard output its answer, or to standard error that its input could not be read. Assumes nothing.
-use Rattle.std.specs.Prelude.{ℕ, ◌≡◌, Bool, true, false, ◌&&◌, List, [], ◌++◌, leb, length, Option, Some, None, Result, Ok, Err}
-use Rattle.std.specs.Borrow.{Bor}
+use Rattle.std.specs.Prelude.{ℕ, ◌≡◌, ◌≤◌, Bool, true, false, ◌&&◌, List, [], ◌++◌, leb, length, Option, Some, None, Result, Ok, Err}
+use Rattle.std.specs.Borrow.{Bor, MutBor}
+use Rattle.std.specs.Fn.{Once}
 use Rattle.std.specs.Option.{is_some}
 use Rattle.model.specs.Runs.{Holds}
 use Rattle.lines.specs.Text.{codes}
@@ -56,3 +57,18 @@ start_of true (Some b) name = Ok b
 pub record Begun (name : List ℕ) (input : Option (Bor (List ℕ))) (room : ℕ) (err err' : List ℕ) (r : Result (Bor (List ℕ)) ℕ) : Type 0 where
   pub start : r ≡ start_of (roomy name room (length err)) input name
   pub line : Holds err (words_of (roomy name room (length err)) (is_some input) name []).err err' (length (words_of (roomy name room (length err)) (is_some input) name []).err)
+
+-- ---- what answers
+
+module _ {F : Type 0} (g : Once F (Bor (List ℕ) × (MutBor (List ℕ) × Unit {0})) (ℕ × (MutBor (List ℕ) × Unit {0}))) (f : F) where
+  -- f may be asked for its answer where there is room for every output
+  abbrev pub Asked : Type 0
+  Asked = (i : Bor (List ℕ)) (o : MutBor (List ℕ)) → max_output ≤ length o.now → g.pre f (i, (o, tt))
+
+  -- f puts this answer to an input at the front of a run
+  abbrev pub Answers : (answer_to : List ℕ → List ℕ) → Type 0
+  Answers answer_to = (i : Bor (List ℕ)) (o o' : MutBor (List ℕ)) (n : ℕ) → g.post f (i, (o, tt)) (n, (o', tt)) → Holds o.now (answer_to i.now) o'.now n
+
+  -- what is said is the program's with the answer of f, whichever that is
+  abbrev pub Speaks_with : (name : List ℕ) (input : Option (Bor (List ℕ))) (out err out' err' : List ℕ) (r : Said) → Type 0
+  Speaks_with name input out err out' err' r = (answer_to : List ℕ → List ℕ) → Answers answer_to → Speaks name (is_some input) (answer_to (input_of input)) out err out' err' r

@@ -1,5 +1,5 @@
 // What a program says, and when it says nothing: the rule for an input that could not be read, and for room that is too small.
-ghost use Rattle.lines.specs.Said.{Begun};
+ghost use Rattle.lines.specs.Said.{Begun, Asked, Speaks_with};
 
 // The room that every output has.
 const MAX_OUTPUT: usize = 65536;
@@ -30,4 +30,25 @@ pub fn begin<'a>(
     }
     let p = crate::number::put_word(err, 0, name);
     Err(crate::number::put_word(err, p, unread))
+}
+
+// What a program of this name says: to an input, or to none where it could not be read. `answer` puts its answer to an input at the front of `out`, and
+// what goes to standard error stands at the front of `err`.
+pub fn respond<F: FnOnce(&[u8], &mut [u8]) -> usize>(
+    name: &[u8],
+    input: Option<&[u8]>,
+    out: &mut [u8],
+    err: &mut [u8],
+    answer: F,
+) -> Said
+    requires { Asked F.FnOnce answer }
+    ensures { Speaks_with F.FnOnce answer name.now input.entry out.old err.old out.new err.new result }
+{
+    match begin(name, input, out.len(), err) {
+        Ok(bytes) => Said {
+            out: answer(bytes, out),
+            err: 0,
+        },
+        Err(n) => Said { out: 0, err: n },
+    }
 }

@@ -3,3 +3,4 @@
 
 pub mod checker;
 pub mod search;
+pub mod whole;

@@ -89,11 +89,5 @@ fn report(input: &[u8], out: &mut [u8]) -> usize
 pub fn respond(input: Option<&[u8]>, out: &mut [u8], err: &mut [u8]) -> Said
     ensures { Speaks (codes "search") (is_some input.entry) (reported (input_of input.entry)) out.old err.old out.new err.new result }
 {
-    match lines::said::begin(b"search", input, out.len(), err) {
-        Ok(bytes) => Said {
-            out: report(bytes, out),
-            err: 0,
-        },
-        Err(n) => Said { out: 0, err: n },
-    }
+    lines::said::respond(b"search", input, out, err, report)
 }
