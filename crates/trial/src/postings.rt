@@ -7,25 +7,26 @@ pub(crate) struct Run<'a> {
     pub(crate) scores: &'a [u16],
 }
 
+// Docids beside scores, with room for N: postings, and the hits that are due.
 #[derive(Drop)]
-pub(crate) struct Postings<const N: usize> {
+pub(crate) struct Rows<S, const N: usize> {
     docids: [u32; N],
-    scores: [u16; N],
+    scores: [S; N],
     len: usize,
     ghost within: { len ≤ N },
 }
 
-impl<const N: usize> Postings<N> {
-    pub(crate) fn new() -> Postings<N> {
-        Postings {
+impl<S: Copy + Default, const N: usize> Rows<S, N> {
+    pub(crate) fn new() -> Rows<S, N> {
+        Rows {
             docids: [0; N],
-            scores: [0; N],
+            scores: [S::default(); N],
             len: 0,
         }
     }
 
-    // Puts a posting behind those that are held, if there is room.
-    pub(crate) fn push(&mut self, docid: u32, score: u16) {
+    // Puts a row behind those that are held, if there is room.
+    pub(crate) fn push(&mut self, docid: u32, score: S) {
         let at = self.len;
         if at < N {
             self.docids[at] = docid;
@@ -34,10 +35,26 @@ impl<const N: usize> Postings<N> {
         }
     }
 
+    pub(crate) fn len(&self) -> usize {
+        self.len
+    }
+
+    pub(crate) fn docids(&self) -> &[u32] {
+        &self.docids[..self.len]
+    }
+
+    pub(crate) fn scores(&self) -> &[S] {
+        &self.scores[..self.len]
+    }
+}
+
+pub(crate) type Postings<const N: usize> = Rows<u16, N>;
+
+impl<const N: usize> Rows<u16, N> {
     pub(crate) fn as_run(&self) -> Run<'_> {
         Run {
-            docids: &self.docids[..self.len],
-            scores: &self.scores[..self.len],
+            docids: self.docids(),
+            scores: self.scores(),
         }
     }
 }

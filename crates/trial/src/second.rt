@@ -1,56 +1,19 @@
 // A second ranker, over the table alone: every sheet's score is added up, and the best is taken k times. It also says which intervals are opened.
-ghost use Rattle.std.specs.Prelude.{◌≤◌};
-ghost use Rattle.trial.specs.declared.answers.TheConstants.{ROWS};
-
 use crate::answers::{ROWS, rows};
+use crate::postings::Rows;
 use crate::table::{ASKED, SHEETS, Table, docid_of};
 use rank::keep::Kept;
 use std::array;
 
 // The hits, in order.
-#[derive(Drop)]
-pub(crate) struct Hits {
-    docids: [u32; ROWS],
-    scores: [u32; ROWS],
-    len: usize,
-    ghost within: { len ≤ ROWS },
-}
+pub(crate) type Hits = Rows<u32, ROWS>;
 
-impl Hits {
-    fn new() -> Hits {
-        Hits {
-            docids: [0; ROWS],
-            scores: [0; ROWS],
-            len: 0,
-        }
-    }
-
+impl Rows<u32, ROWS> {
     // A hit and no other.
     pub(crate) fn one(docid: u32, score: u32) -> Hits {
         let mut hits = Hits::new();
         hits.push(docid, score);
         hits
-    }
-
-    fn push(&mut self, docid: u32, score: u32) {
-        let at = self.len;
-        if at < ROWS {
-            self.docids[at] = docid;
-            self.scores[at] = score;
-            self.len = at + 1;
-        }
-    }
-
-    pub(crate) fn len(&self) -> usize {
-        self.len
-    }
-
-    pub(crate) fn docids(&self) -> &[u32] {
-        &self.docids[..self.len]
-    }
-
-    pub(crate) fn scores(&self) -> &[u32] {
-        &self.scores[..self.len]
     }
 
     // Whether a ranker kept these hits.
