@@ -10,9 +10,6 @@ use Rattle.rank.proofs.Places.{insert-at, behind-before}
 use Rattle.rank.proofs.Rows.{rows-length, rows_get_d}
 use Rattle.rank.proofs.keep.place.Goals as goal
 
-pub loop-low-init : goal.loop-low-init
-loop-low-init c = (omega arith, omega arith, tt, λ l. absurd (omega arith))
-
 pub loop-low-preserved-then-is_ahead : goal.loop-low-preserved-then-is_ahead
 loop-low-preserved-then-is_ahead c =
     let here : (i : ℕ) → i < c.args.n → get_or (take c.args.n (postings c.args.docids.now c.args.scores.now)) i (post 0 0) ≡ post (get_or c.args.docids.now i 0) (get_or c.args.scores.now i 0) = λ i l. get_or-take c.args.n (postings c.args.docids.now c.args.scores.now) i (post 0 0) l ∙ rows_get_d c.args.docids.now c.args.scores.now i (omega arith) (omega arith) in
