@@ -1,26 +1,12 @@
 -- `list::read::fill` meets its contract. The invariant: the postings poured and those of the blocks left are all (`Pours`). Assumes nothing.
 use native.Mathlib.Omega.{arith}
 use Rattle.shelf.specs.Blocks.{blocks_left}
-use Rattle.list.proofs.Pours.{pour_start, pour_room, pour_turn, pour_done}
+use Rattle.list.proofs.Pours.{pour_start, pour_turn, pour_done}
 use Rattle.list.proofs.read.fill.Goals as goal
-
-pub new-reading-requires : goal.new-reading-requires
-new-reading-requires c = omega (arith, c.requires.ready.room)
 
 pub loop-b-init : goal.loop-b-init
 loop-b-init c =
     pour_start c.args.s.now c.args.list c.new-reading.result c.args.docids.now c.args.scores.now c.requires (omega arith) c.new-reading.ensures
-
-pub read_body-requires : goal.read_body-requires
-read_body-requires c =
-    let f = c.in-Some.ensures in
-    let b = c.in-Some.b in
-    let l = c.loop-b in
-    let s = c.args.s.now in
-    pour_room s (blocks_left s c.new-reading.result) c.args.docids.now c.args.scores.now l.docids l.scores l.reading l.i f.0 b.start b.end c.next.new.self b.summary f.1 (omega arith) f.2 l.invariant
-
-pub overflow_add-i : goal.overflow_add-i
-overflow_add-i c = omega (arith, c.loop-b.invariant.small, c.in-Some.ensures.2.fewer)
 
 pub loop-b-preserved : goal.loop-b-preserved
 loop-b-preserved c =

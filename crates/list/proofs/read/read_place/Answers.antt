@@ -4,12 +4,12 @@ use mathlib.Core.Path.{◌≡◌, sym}
 use lib.ListN.{length}
 use Rattle.shelf.specs.Walk.{blocks_at}
 use Rattle.shelf.specs.Check.{bad_body}
-use Rattle.std.specs.Prelude.{Some, None}
+use Rattle.std.specs.Prelude.{None}
 use Rattle.model.specs.Refusal.{refusal}
 use Rattle.model.specs.declared.refusal.Fault.TheVariants as fault
 use Rattle.list.specs.Read.{count_of, read_blocks}
 use Rattle.list.specs.Fill.{Fillable}
-use Rattle.list.proofs.Given.{reads_refused, read_bad, read_short, reads_filled}
+use Rattle.list.proofs.Given.{reads_refused, read_short, reads_filled}
 use Rattle.list.proofs.read.read_place.Goals as goal
 
 pub returns-then-docids-n : goal.returns-then-docids-n
@@ -29,22 +29,6 @@ returns-then-scores-n c =
     let n : count_of bs ≡ c.count-n.result = sym c.count-n.ensures in
     rw c.at-then-scores-n.ensures (reads_refused (read_blocks bs (length a.docids.now) (length a.scores.now)) (refusal fault.Room 0) a.docids.now a.scores.now
     (read_short bs (length a.docids.now) (length a.scores.now) right (omega arith)))
-
-pub fill-requires : goal.fill-requires
-fill-requires c =
-    let a = c.args in
-    let bs = blocks_at a.s.now a.list.at a.list.count in
-    let right : bad_body bs ≡ None = cc in
-    let n : count_of bs ≡ c.count-n.result = sym c.count-n.ensures in
-    record { ready = c.requires; right = right; roomy = omega arith; wide = omega arith }
-
-pub returns-in-Some : goal.returns-in-Some
-returns-in-Some c =
-    let a = c.args in
-    let bs = blocks_at a.s.now a.list.at a.list.count in
-    let wrong : bad_body bs ≡ Some c.in-Some.o = cc in
-    rw c.at.ensures (reads_refused (read_blocks bs (length a.docids.now) (length a.scores.now)) (refusal fault.Body c.in-Some.o) a.docids.now a.scores.now
-    (read_bad bs (length a.docids.now) (length a.scores.now) c.in-Some.o wrong))
 
 pub returns : goal.returns
 returns c =

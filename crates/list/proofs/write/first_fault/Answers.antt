@@ -40,14 +40,6 @@ none : (ds ss : List ℕ) → length ds ≡ 0 → postings ds ss ≡ []
 none [] ss h = refl
 none (d ∷ ds) ss h = absurd (omega arith)
 
-pub loop-i-init : goal.loop-i-init
-loop-i-init c =
-    let it = c.into_iter-i-iterator.result in
-    let d : iter_rest (zip_first (enumerate_source it)) ≡ c.args.docs.now = cc in
-    let s : iter_rest (zip_second (enumerate_source it)) ≡ c.args.scores.now = cc in
-    let n : enumerate_count it ≡ 0 = cc in
-    rw (n, d, s) (omega arith, c.requires, refl, omega arith)
-
 pub returns-then-d-p : goal.returns-then-d-p
 returns-then-d-p c =
     let l = c.loop-i in

@@ -19,10 +19,6 @@ loop-d-init c =
     let n : chunks_size (zip_second z) ≡ 100 = cc in
     (cut z c.args.docs.now c.args.scores.now m n d s c.requires.0, rw (d, s) (rest-start _ _ _))
 
-pub summary_of-m-requires : goal.summary_of-m-requires
-summary_of-m-requires c =
-    let t = cut_turn c.loop-d.d-iterator c.next.new.self c.in-Some.d c.in-Some.s c.loop-d.invariant.0 c.in-Some.ensures.steps in (t.some, t.few, t.even.same)
-
 pub put_summary-j-requires : goal.put_summary-j-requires
 put_summary-j-requires c =
     let t = cut_turn c.loop-d.d-iterator c.next.new.self c.in-Some.d c.in-Some.s c.loop-d.invariant.0 c.in-Some.ensures.steps in
