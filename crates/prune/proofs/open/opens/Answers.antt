@@ -1,11 +1,8 @@
 -- `opens` meets its contract. Assumes nothing.
-use borrow.Author.Tests.{lt-ltb, le-ltb}
+use borrow.Author.Tests.{lt-ltb}
 use Rattle.rank.specs.Rank.{beats}
 use Rattle.prune.proofs.open.opens.Goals as goal
 
 pub returns-then-ceiling-gt0 : goal.returns-then-ceiling-gt0
 unfolding beats
 returns-then-ceiling-gt0 c = rw (lt-ltb 0 c.args.ceiling c.if-ceiling-gt0.true)
-
-pub returns-else-ceiling-gt0 : goal.returns-else-ceiling-gt0
-returns-else-ceiling-gt0 c = rw (le-ltb 0 c.args.ceiling c.if-ceiling-gt0.false)
