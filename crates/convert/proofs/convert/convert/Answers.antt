@@ -9,10 +9,6 @@ use Rattle.change.proofs.Pieces.{judged-lists}
 use Rattle.convert.proofs.Seatings.{converted-sound, converted-fault}
 use Rattle.convert.proofs.convert.convert.Goals as goal
 
-pub convert_sound-requires : goal.convert_sound-requires
-convert_sound-requires c =
-    sym c.in_ok-check.ensures
-
 pub returns : goal.returns
 returns c =
     let a = c.args in

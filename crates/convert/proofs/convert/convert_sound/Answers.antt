@@ -11,9 +11,6 @@ use Rattle.change.proofs.Pieces.{judged-lists}
 use Rattle.convert.proofs.Seatings.{refuses_none, refuses_tight, seat_turnable, seat_gives}
 use Rattle.convert.proofs.convert.convert_sound.Goals as goal
 
-pub find_seat-requires : goal.find_seat-requires
-find_seat-requires c = c.requires
-
 pub returns-then-out-s : goal.returns-then-out-s
 returns-then-out-s c =
     let f = c.find_seat in
