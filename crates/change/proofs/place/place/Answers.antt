@@ -3,7 +3,7 @@ use native.Mathlib.Omega.{arith}
 use mathlib.Core.Path.{◌≡◌}
 use lib.ListN.{length}
 use Rattle.list.proofs.Faults.{gives-refused}
-use Rattle.change.specs.Seat.{Placeable, strip_by}
+use Rattle.change.specs.Seat.{strip_by}
 use Rattle.change.specs.declared.seat.Seat.TheVariants.{Taken, Free}
 use Rattle.change.proofs.Pieces.{sound-lists}
 use Rattle.change.proofs.News.{place_many, place_full, place-free, place-taken}
@@ -14,32 +14,11 @@ returns-then-docs-gt-MAX_POSTINGS c =
     let a = c.args in
     λ ls e. rw c.at.ensures (gives-refused _ a.out.now (place_many a.s.now (length ls) a.term a.docs.now a.scores.now (length a.out.now) c.requires.same a.seat c.if-docs-gt-MAX_POSTINGS.true))
 
-pub strip_of-strip-requires : goal.strip_of-strip-requires
-strip_of-strip-requires c =
-    c.requires.stood
-
-pub splice-requires : goal.splice-requires
-splice-requires c =
-    let a = c.args in
-    let k : a.seat ≡ Taken c.in-Taken.p = cc in
-    let q : Placeable a.s.now (Taken c.in-Taken.p) a.docs.now a.scores.now = rw k at c.requires in
-    (q.order, q.inside, q.short, q.may c.if-docs-gt-MAX_POSTINGS.false)
-
-pub lists_in-requires : goal.lists_in-requires
-lists_in-requires c = c.requires.sound
-
 pub returns-then-lists_in : goal.returns-then-lists_in
 returns-then-lists_in c =
     let a = c.args in
     let k : a.seat ≡ Free c.in-Free.at = cc in
     λ ls e. rw k (rw c.at-then-lists_in.ensures (gives-refused _ a.out.now (place_full a.s.now (length ls) a.term a.docs.now a.scores.now (length a.out.now) c.requires.same c.in-Free.at c.if-docs-gt-MAX_POSTINGS.false (omega (arith, c.lists_in.ensures ls e, c.if-lists_in.true)))))
-
-pub splice-requires-in-Free : goal.splice-requires-in-Free
-splice-requires-in-Free c =
-    let a = c.args in
-    let k : a.seat ≡ Free c.in-Free.at = cc in
-    let q : Placeable a.s.now (Free c.in-Free.at) a.docs.now a.scores.now = rw k at c.requires in
-    (q.order, q.inside, q.short, q.may c.if-docs-gt-MAX_POSTINGS.false)
 
 pub returns-in-Taken : goal.returns-in-Taken
 returns-in-Taken c =

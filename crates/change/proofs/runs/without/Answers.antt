@@ -1,11 +1,8 @@
 -- `change::runs::without` meets its contract. The invariant: of the postings passed, those that stay are in front (`Runnings`). Assumes nothing.
 use Prim.Native.Nat.{◌+◌}
-use Rattle.change.proofs.Runnings.{clear-start, clear_stays, clear_goes, clear_as, clear-done}
+use Rattle.change.proofs.Runnings.{clear_stays, clear_goes, clear_as}
 use Rattle.change.proofs.runs.without.Goals.{else-x-d, then-x-d}
 use Rattle.change.proofs.runs.without.Goals as goal
-
-pub loop-i-init : goal.loop-i-init
-loop-i-init c = clear-start c.args.d c.args.n c.args.docs.now c.args.scores.now c.requires.0 c.requires.1
 
 pub loop-i-preserved : goal.loop-i-preserved
 loop-i-preserved c =
@@ -18,8 +15,3 @@ loop-i-preserved c =
       | else-x-d w ↦ clear_as a.d a.n a.docs.now a.scores.now c.requires.0 c.requires.1 (l.i + 1) w.docs-is w.scores-is w.j-is
           (clear_goes a.d a.n a.docs.now a.scores.now c.requires.0 c.requires.1 l.docs l.scores l.i l.j t l.invariant w.if-x-d.false)
     ])
-
-pub returns : goal.returns
-returns c =
-    let l = c.loop-i in
-    clear-done c.args.d c.args.n c.args.docs.now c.args.scores.now c.requires.0 c.requires.1 l.docs l.scores l.i l.j c.loop-i-test.false l.invariant

@@ -12,11 +12,6 @@ loop-list-init c =
     let w = c.new-lists in
     (omega (arith, left_all w.result w.ensures), λ ls e. count-start c.args.s.now ls e w.result w.ensures)
 
-pub overflow_add-n : goal.overflow_add-n
-overflow_add-n c =
-    let t = turn c.args.s.now c.loop-list.lists c.in-Ok-Some.list c.next.new.self (rw c.in-Ok-Some.field-0-is at c.in-Ok-Some.ensures) in
-    omega (arith, c.loop-list.invariant.0, t.fewer)
-
 pub loop-list-smaller : goal.loop-list-smaller
 loop-list-smaller c = (turn c.args.s.now c.loop-list.lists c.in-Ok-Some.list c.next.new.self (rw c.in-Ok-Some.field-0-is at c.in-Ok-Some.ensures)).fewer
 

@@ -1,22 +1,9 @@
 -- `change::seat::strip_of` meets its contract: a list's layout is told by its first body (`News`). Assumes nothing.
-use native.Mathlib.Omega.{arith}
 use mathlib.Core.Path.{◌≡◌}
 use Rattle.change.specs.Seat.{Stood}
 use Rattle.change.specs.declared.seat.Seat.TheVariants.{Taken}
 use Rattle.change.proofs.News.{strip-taken}
 use Rattle.change.proofs.seat.strip_of.Goals as goal
-
-pub overflow_add-p : goal.overflow_add-p
-overflow_add-p c =
-    let e : c.args.seat ≡ Taken c.in-Taken.p = cc in
-    let h : Stood (Taken c.in-Taken.p) = rw e at c.requires in
-    omega (arith, h.1)
-
-pub overflow_add-p-in-Taken : goal.overflow_add-p-in-Taken
-overflow_add-p-in-Taken c =
-    let e : c.args.seat ≡ Taken c.in-Taken.p = cc in
-    let h : Stood (Taken c.in-Taken.p) = rw e at c.requires in
-    omega (arith, h.1)
 
 pub returns-in-Taken : goal.returns-in-Taken
 returns-in-Taken c =
