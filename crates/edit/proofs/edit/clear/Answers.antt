@@ -18,10 +18,6 @@ returns-then-not-docid_in c =
     let f = sym c.docid_in.ensures ∙ c.if-not-docid_in.true in
     rw c.at.ensures (gives-refused _ a.out.now (edited_range (Clear a.term a.docid) a.s.now (length a.out.now) f))
 
-pub clear_sound-requires : goal.clear_sound-requires
-clear_sound-requires c =
-    sym c.in_ok-check.ensures
-
 pub returns : goal.returns
 returns c =
     let ranged : in_range (Clear c.args.term c.args.docid) ≡ true = sym c.docid_in.ensures ∙ c.if-not-docid_in.false in

@@ -6,11 +6,8 @@ use Rattle.shelf.specs.Check.{checked}
 use Rattle.list.proofs.Faults.{gives-refused}
 use Rattle.change.proofs.Pieces.{judged-lists}
 use Rattle.change.proofs.News.{held-runs}
-use Rattle.edit.proofs.Sittings.{Sits, sits, without-room, clear-chain, cleared-fit, runs_placeable, clear_refuses, clear-gives}
+use Rattle.edit.proofs.Sittings.{Sits, sits, clear-chain, cleared-fit, runs_placeable, clear_refuses, clear-gives}
 use Rattle.edit.proofs.edit.clear_in.Goals as goal
-
-pub find_seat-seat-requires : goal.find_seat-seat-requires
-find_seat-seat-requires c = c.requires.0
 
 pub held-n-requires : goal.held-n-requires
 held-n-requires c =
@@ -19,20 +16,11 @@ held-n-requires c =
     sits c.args.s.now l.0 (bytes) l.1 c.args.term c.find_seat-seat.result (c.find_seat-seat.ensures l.0 l.1) in
     (sat).fills (length c.args.docs.now) (length c.args.scores.now) (omega (arith, c.requires.1.docids)) (omega (arith, c.requires.1.scored))
 
-pub without-m-requires : goal.without-m-requires
-without-m-requires c = without-room c.held-n.ensures
-
 pub returns-then-m-n : goal.returns-then-m-n
 returns-then-m-n c =
     let bytes : Bytes c.args.s.now = λ i. omega (arith, c.shared_slice_known-1.given i) in
     let a = c.args in
     λ ls e. rw c.at.ensures (gives-refused _ a.out.now (clear_refuses a.s.now ls (bytes) e a.term a.docid c.find_seat-seat.result (c.find_seat-seat.ensures ls e) c.held-n.result c.without-m.result _ _ _ _ (held-runs c.held-n.ensures) (clear-chain c.held-n.ensures c.without-m.ensures) (length a.out.now) c.if-m-n.true))
-
-pub slice_bounds-place-end : goal.slice_bounds-place-end
-slice_bounds-place-end c = (clear-chain c.held-n.ensures c.without-m.ensures).roomy
-
-pub slice_bounds-place-end-2 : goal.slice_bounds-place-end-2
-slice_bounds-place-end-2 c = (clear-chain c.held-n.ensures c.without-m.ensures).wide
 
 pub place-requires : goal.place-requires
 place-requires c =

@@ -24,12 +24,6 @@ returns-then-score-eq0 c =
     let a = c.args in
     rw c.at-then-score-eq0.ensures (gives-refused _ a.out.now (edited_range (Set a.term a.docid a.score) a.s.now (length a.out.now) (set-score-out a.term a.docid a.score c.if-score-eq0.true)))
 
-pub set_sound-requires : goal.set_sound-requires
-set_sound-requires c =
-    let ranged : in_range (Set c.args.term c.args.docid c.args.score) ≡ true = let f = sym c.docid_in.ensures ∙ c.if-not-docid_in.false in
-    set_in_range c.args.term c.args.docid c.args.score f c.if-score-eq0.false (omega arith) in
-    (ranged, sym c.in_ok-check.ensures)
-
 pub returns : goal.returns
 returns c =
     let ranged : in_range (Set c.args.term c.args.docid c.args.score) ≡ true = let f = sym c.docid_in.ensures ∙ c.if-not-docid_in.false in

@@ -4,11 +4,8 @@ use lib.ListN.{length}
 use Rattle.model.specs.Runs.{Bytes}
 use Rattle.shelf.specs.Check.{checked}
 use Rattle.change.proofs.Pieces.{judged-lists}
-use Rattle.edit.proofs.Sittings.{Sits, sits, without-room, set_insertable, set-chain, set-fits, runs_placeable, set_gives}
+use Rattle.edit.proofs.Sittings.{Sits, sits, set_insertable, set-chain, set-fits, runs_placeable, set_gives}
 use Rattle.edit.proofs.edit.set_in.Goals as goal
-
-pub find_seat-seat-requires : goal.find_seat-seat-requires
-find_seat-seat-requires c = c.requires.1
 
 pub held-n-requires : goal.held-n-requires
 held-n-requires c =
@@ -17,29 +14,12 @@ held-n-requires c =
     sits c.args.s.now l.0 (bytes) l.1 c.args.term c.find_seat-seat.result (c.find_seat-seat.ensures l.0 l.1) in
     (sat).fills (length c.args.docs.now) (length c.args.scores.now) (omega (arith, c.requires.2.docids)) (omega (arith, c.requires.2.scored))
 
-pub without-m-requires : goal.without-m-requires
-without-m-requires c = without-room c.held-n.ensures
-
 pub insert-k-requires : goal.insert-k-requires
 insert-k-requires c =
     let bytes : Bytes c.args.s.now = λ i. omega (arith, c.shared_slice_known-1.given i) in
     let sat : Sits c.args.s.now c.find_seat-seat.result = let l = judged-lists (checked c.args.s.now) c.requires.1 in
     sits c.args.s.now l.0 (bytes) l.1 c.args.term c.find_seat-seat.result (c.find_seat-seat.ensures l.0 l.1) in
     set_insertable (sat) c.requires.2 c.held-n.ensures c.without-m.ensures
-
-pub slice_bounds-place-end : goal.slice_bounds-place-end
-slice_bounds-place-end c =
-    let bytes : Bytes c.args.s.now = λ i. omega (arith, c.shared_slice_known-1.given i) in
-    let sat : Sits c.args.s.now c.find_seat-seat.result = let l = judged-lists (checked c.args.s.now) c.requires.1 in
-    sits c.args.s.now l.0 (bytes) l.1 c.args.term c.find_seat-seat.result (c.find_seat-seat.ensures l.0 l.1) in
-    (set-chain (sat) c.held-n.ensures c.without-m.ensures c.insert-k.ensures).roomy
-
-pub slice_bounds-place-end-2 : goal.slice_bounds-place-end-2
-slice_bounds-place-end-2 c =
-    let bytes : Bytes c.args.s.now = λ i. omega (arith, c.shared_slice_known-1.given i) in
-    let sat : Sits c.args.s.now c.find_seat-seat.result = let l = judged-lists (checked c.args.s.now) c.requires.1 in
-    sits c.args.s.now l.0 (bytes) l.1 c.args.term c.find_seat-seat.result (c.find_seat-seat.ensures l.0 l.1) in
-    (set-chain (sat) c.held-n.ensures c.without-m.ensures c.insert-k.ensures).wide
 
 pub place-requires : goal.place-requires
 place-requires c =

@@ -18,10 +18,6 @@ returns-then-not-docid_in c =
     let f = sym c.docid_in.ensures ∙ c.if-not-docid_in.true in
     rw c.at.ensures (gives-refused _ a.out.now (edited_range (Withdraw a.docid) a.s.now (length a.out.now) f))
 
-pub withdraw_sound-requires : goal.withdraw_sound-requires
-withdraw_sound-requires c =
-    sym c.in_ok-check.ensures
-
 pub returns : goal.returns
 returns c =
     let ranged : in_range (Withdraw c.args.docid) ≡ true = sym c.docid_in.ensures ∙ c.if-not-docid_in.false in

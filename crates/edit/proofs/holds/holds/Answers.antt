@@ -1,13 +1,9 @@
 -- `edit::holds` meets its contract. The invariant: the docid is sought in the postings of the blocks left (`Seekings`). Assumes nothing.
-use native.Mathlib.Omega.{arith}
 use mathlib.Core.Path.{sym, ap, ◌∙◌}
 use Rattle.shelf.specs.Walk.{posts_of}
 use Rattle.shelf.specs.Blocks.{blocks_left}
 use Rattle.edit.proofs.Seekings.{seek-none, look-start, look-rise, look-on, look-here, look-all}
 use Rattle.edit.proofs.holds.holds.Goals as goal
-
-pub new-reading-requires : goal.new-reading-requires
-new-reading-requires c = omega (arith, c.requires.ready.room)
 
 pub loop-b-init : goal.loop-b-init
 loop-b-init c =

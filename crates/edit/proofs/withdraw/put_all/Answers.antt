@@ -40,18 +40,12 @@ loop-list-preserved c =
       stored-length c.put_left-j.ensures ∙ l.invariant.2,
     )
 
-pub shape_of-out-in_default : goal.shape_of-out-in_default
-shape_of-out-in_default c = omega (arith, c.loop-list.invariant.2)
-
 pub returns-in_default : goal.returns-in_default
 returns-in_default c =
     let a = c.args in
     let l = c.loop-list in
     let none : c.next.result ≡ Ok None = cc in
     λ ls e. put_end a.s.now a.d ls a.out.now l.out l.lists l.j (l.invariant.1 ls e) (rw none at c.next.ensures).0
-
-pub shape_of-out-in_default-2 : goal.shape_of-out-in_default-2
-shape_of-out-in_default-2 c = omega (arith, c.loop-list.invariant.2)
 
 pub returns-in_default-2 : goal.returns-in_default-2
 returns-in_default-2 c =

@@ -6,25 +6,8 @@ use Prim.Native.Nat.{ℕ}
 use lib.ListN.{length}
 use Rattle.model.proofs.Storing.{stored_as}
 use Rattle.edit.proofs.Sittings.{count-some}
-use Rattle.edit.proofs.Lefts.{left-sought, left-held, left-runs, left-may, left_as_was, left-anew, kept-room}
+use Rattle.edit.proofs.Lefts.{left-held, left-may, left-anew}
 use Rattle.edit.proofs.withdraw.put_left.Goals as goal
-
-pub holds-requires : goal.holds-requires
-holds-requires c = left-sought c.requires.0
-
-pub copy-requires : goal.copy-requires
-copy-requires c =
-    let z = c.requires.0 in
-    let h = sym c.holds.ensures ∙ c.if-not-holds.true in
-    (z.order, z.inside, kept-room c.args.s.now c.args.list c.args.d c.args.at _ z.order z.inside h c.requires.1)
-
-pub returns-then-not-holds : goal.returns-then-not-holds
-returns-then-not-holds c =
-    let h = sym c.holds.ensures ∙ c.if-not-holds.true in
-    stored_as (sym (left_as_was c.args.s.now c.args.list c.args.d h)) c.copy.ensures
-
-pub fill-n-requires : goal.fill-n-requires
-fill-n-requires c = c.requires.0.fills
 
 pub without-m-requires : goal.without-m-requires
 without-m-requires c =
@@ -35,14 +18,6 @@ pub strip_of-strip-requires : goal.strip_of-strip-requires
 strip_of-strip-requires c =
     let z = c.requires.0 in
     (count-some c.args.s.now c.args.list.at c.args.list.count z.may.some, omega (arith, z.fills.ready.room))
-
-pub slice_bounds-put_new-end : goal.slice_bounds-put_new-end
-slice_bounds-put_new-end c =
-    (left-runs c.requires.0 c.fill-n.ensures c.without-m.ensures).roomy
-
-pub slice_bounds-put_new-end-2 : goal.slice_bounds-put_new-end-2
-slice_bounds-put_new-end-2 c =
-    (left-runs c.requires.0 c.fill-n.ensures c.without-m.ensures).wide
 
 pub put_new-requires : goal.put_new-requires
 put_new-requires c =

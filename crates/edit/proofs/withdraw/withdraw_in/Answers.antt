@@ -9,9 +9,6 @@ use Rattle.change.specs.Bytes.{pieces, joined, clear_pieces}
 use Rattle.edit.proofs.Lefts.{withdraw-none, withdraw-some, fit_large, fit_tight, fit-done}
 use Rattle.edit.proofs.withdraw.withdraw_in.Goals as goal
 
-pub measure-left-requires : goal.measure-left-requires
-measure-left-requires c = c.requires
-
 pub returns-then-not-left : goal.returns-then-not-left
 returns-then-not-left c =
     λ ls e.
@@ -29,10 +26,6 @@ returns-then-out-left c =
     λ ls e.
     let m = c.measure-left.ensures ls e in
     rw c.at-then-out-left.ensures (gives-refused _ c.args.out.now (withdraw-some c.args.s.now ls (λ i. omega (arith, c.shared_slice_known-1.given i)) e c.args.docid (length c.args.out.now) (sym m.held ∙ not-false _ c.if-not-left.false) ∙ fit_tight (joined (clear_pieces every c.args.docid (pieces c.args.s.now ls))) (length c.args.out.now) (omega (arith, m.bytes, c.if-left-gt-MAX_SHELF.false)) (omega (arith, m.bytes, c.if-out-left.true))))
-
-pub put_all-requires : goal.put_all-requires
-put_all-requires c =
-    (c.requires.0, record { docids = omega (arith, c.requires.1.docids); scored = omega (arith, c.requires.1.scored) }, λ ls e. omega (arith, (c.measure-left.ensures ls e).bytes, c.if-out-left.false))
 
 pub returns : goal.returns
 returns c =
