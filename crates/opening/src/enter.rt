@@ -7,6 +7,7 @@ ghost use Rattle.opening.specs.Table.{gap};
 ghost use Rattle.prune.specs.Prune.{earlier};
 ghost use Rattle.opening.specs.Enter.{Loadable, Enters, told, Enterable, EntersAll};
 
+use crate::table::Table;
 use block::summary::Summary;
 use scan::head::Head;
 
@@ -45,11 +46,7 @@ pub struct Entry {
 // List t, which read block `was`, in an interval that meets block `met`.
 fn enter(
     shelf: &[u8],
-    los: &[u32],
-    his: &[u32],
-    tops: &[u16],
-    counts: &[u8],
-    bodies: &[u32],
+    blocks: Table<'_>,
     weight: u8,
     t: usize,
     was: usize,
@@ -58,8 +55,8 @@ fn enter(
     docs: &mut [u32; 800],
     scores: &mut [u16; 800],
 ) -> Entry
-    requires { (t < 8) × ((met ≡ gap → ⊥) → Loadable shelf.now los.now his.now tops.now counts.now bodies.now met) × (length docs.old ≡ roomy) × (length scores.old ≡ roomy) }
-    ensures { Enters shelf.now los.now his.now tops.now counts.now bodies.now weight t was met head docs.old scores.old docs.new scores.new result }
+    requires { (t < 8) × ((met ≡ gap → ⊥) → Loadable shelf.now blocks.los.now blocks.his.now blocks.tops.now blocks.counts.now blocks.bodies.now met) × (length docs.old ≡ roomy) × (length scores.old ≡ roomy) }
+    ensures { Enters shelf.now blocks.entry.los.now blocks.entry.his.now blocks.entry.tops.now blocks.entry.counts.now blocks.entry.bodies.now weight t was met head docs.old scores.old docs.new scores.new result }
 {
     if met == was {
         return Entry {
@@ -75,12 +72,12 @@ fn enter(
             wrong: None,
         };
     }
-    let at = bodies[met] as usize;
+    let at = blocks.bodies[met] as usize;
     let m = Summary {
-        least: los[met],
-        greatest: his[met],
-        top: tops[met],
-        count: counts[met],
+        least: blocks.los[met],
+        greatest: blocks.his[met],
+        top: blocks.tops[met],
+        count: blocks.counts[met],
         strip: block::body::is_strip(shelf, at),
     };
     match scan::load::load(body_at(shelf, at), m, weight, t, docs, scores) {
@@ -118,11 +115,7 @@ fn sooner(a: Option<usize>, b: Option<usize>) -> Option<usize>
 // All lists in an interval that meets the blocks `mets`, where they read the blocks `was`.
 pub(crate) fn enter_all(
     shelf: &[u8],
-    los: &[u32],
-    his: &[u32],
-    tops: &[u16],
-    counts: &[u8],
-    bodies: &[u32],
+    blocks: Table<'_>,
     weights: &[u8],
     was: &[usize],
     mets: &[usize],
@@ -130,16 +123,15 @@ pub(crate) fn enter_all(
     docs: &mut [u32; 800],
     scores: &mut [u16; 800],
 ) -> Entrance
-    requires { Enterable shelf.now los.now his.now tops.now counts.now bodies.now weights.now was.now mets.now docs.old scores.old }
-    ensures { EntersAll shelf.now los.now his.now tops.now counts.now bodies.now weights.now was.now mets.now heads docs.old scores.old docs.new scores.new result }
+    requires { Enterable shelf.now blocks.los.now blocks.his.now blocks.tops.now blocks.counts.now blocks.bodies.now weights.now was.now mets.now docs.old scores.old }
+    ensures { EntersAll shelf.now blocks.entry.los.now blocks.entry.his.now blocks.entry.tops.now blocks.entry.counts.now blocks.entry.bodies.now weights.now was.now mets.now heads docs.old scores.old docs.new scores.new result }
 {
     let mut hs = heads;
     let mut fresh: usize = 0;
     let mut wrong = None;
     for t in 0..8 {
         let e = enter(
-            shelf, los, his, tops, counts, bodies, weights[t], t, was[t], mets[t], hs[t], docs,
-            scores,
+            shelf, blocks, weights[t], t, was[t], mets[t], hs[t], docs, scores,
         );
         hs[t] = e.head;
         fresh += e.fresh;

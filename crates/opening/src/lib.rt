@@ -3,4 +3,5 @@
 
 pub mod enter;
 pub mod meet;
+pub mod table;
 pub mod turn;

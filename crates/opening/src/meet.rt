@@ -2,6 +2,8 @@
 ghost use Rattle.std.specs.Prelude.{◌≤◌, ◌≡◌, length};
 ghost use Rattle.opening.specs.Meet.{Reaches, met_at, Placed, AllMoved};
 
+use crate::table::Table;
+
 // Past every block: what a list meets in a gap.
 pub const GAP: usize = 512;
 
@@ -25,20 +27,13 @@ fn met(los: &[u32], j: usize, end: usize, d: u32) -> usize
 }
 
 // All lists' places moved on to an interval's first docid, and the blocks that it meets.
-pub fn meet_all(
-    ends: &[usize],
-    los: &[u32],
-    his: &[u32],
-    d: u32,
-    ats: &mut [usize],
-    mets: &mut [usize],
-)
-    requires { Placed los.now his.now ends.now ats.old × (length mets.old ≡ 8) }
-    ensures { AllMoved los.now his.now ends.now ats.old ats.new mets.new d }
+pub fn meet_all(ends: &[usize], blocks: Table<'_>, d: u32, ats: &mut [usize], mets: &mut [usize])
+    requires { Placed blocks.los.now blocks.his.now ends.now ats.old × (length mets.old ≡ 8) }
+    ensures { AllMoved blocks.entry.los.now blocks.entry.his.now ends.now ats.old ats.new mets.new d }
 {
     for (t, &end) in ends.iter().enumerate() {
-        let j = reach(his, ats[t], end, d);
+        let j = reach(blocks.his, ats[t], end, d);
         ats[t] = j;
-        mets[t] = met(los, j, end, d);
+        mets[t] = met(blocks.los, j, end, d);
     }
 }

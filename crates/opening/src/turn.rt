@@ -3,6 +3,7 @@ ghost use Rattle.opening.specs.Enter.{Enterable};
 ghost use Rattle.opening.specs.Turn.{Openable, Opens};
 
 use crate::enter::Entrance;
+use crate::table::Table;
 use rank::keep::Kept;
 use scan::head::Head;
 use scan::run::After;
@@ -20,11 +21,7 @@ pub struct Turn {
 // All blocks that the interval meets are loaded and checked. Only where all are right are its documents scored.
 pub fn open(
     shelf: &[u8],
-    los: &[u32],
-    his: &[u32],
-    tops: &[u16],
-    counts: &[u8],
-    bodies: &[u32],
+    blocks: Table<'_>,
     weights: &[u8],
     was: &[usize],
     mets: &[usize],
@@ -36,16 +33,14 @@ pub fn open(
     k: usize,
     kept: Kept,
 ) -> Turn
-    requires { Enterable shelf.now los.now his.now tops.now counts.now bodies.now weights.now was.now mets.now docs.old scores.old × Openable shelf.now los.now his.now tops.now counts.now bodies.now weights.now was.now heads docs.old scores.old first last k kept }
-    ensures { Opens shelf.now los.now his.now tops.now counts.now bodies.now weights.now was.now mets.now heads docs.old scores.old docs.new scores.new first last k kept result }
+    requires { Enterable shelf.now blocks.los.now blocks.his.now blocks.tops.now blocks.counts.now blocks.bodies.now weights.now was.now mets.now docs.old scores.old × Openable shelf.now blocks.los.now blocks.his.now blocks.tops.now blocks.counts.now blocks.bodies.now weights.now was.now heads docs.old scores.old first last k kept }
+    ensures { Opens shelf.now blocks.entry.los.now blocks.entry.his.now blocks.entry.tops.now blocks.entry.counts.now blocks.entry.bodies.now weights.now was.now mets.now heads docs.old scores.old docs.new scores.new first last k kept result }
 {
     let Entrance {
         heads,
         fresh,
         wrong,
-    } = crate::enter::enter_all(
-        shelf, los, his, tops, counts, bodies, weights, was, mets, heads, docs, scores,
-    );
+    } = crate::enter::enter_all(shelf, blocks, weights, was, mets, heads, docs, scores);
     if wrong.is_some() {
         return Turn {
             heads,

@@ -9,35 +9,32 @@ returns-then-met-was c = enter-kept _ _ _ _ _ _ _ _ _ _ _ _ _ c.if-met-was.true
 pub returns-then-met-eq-GAP : goal.returns-then-met-eq-GAP
 returns-then-met-eq-GAP c = enter-gap _ _ _ _ _ _ _ _ _ _ _ _ _ _ c.if-met-was.false c.if-met-eq-GAP.true c.ended.ensures
 
-pub offset_bounds-bodies-met : goal.offset_bounds-bodies-met
-offset_bounds-bodies-met c = let l = c.requires.1 c.if-met-eq-GAP.false in omega (arith, l.body-in)
+pub offset_bounds-blocks-met : goal.offset_bounds-blocks-met
+offset_bounds-blocks-met c = let l = c.requires.1 c.if-met-eq-GAP.false in omega (arith, l.body-in)
 
-pub bounds-bodies-met : goal.bounds-bodies-met
-bounds-bodies-met c = (c.requires.1 c.if-met-eq-GAP.false).body-in
+pub bounds-blocks-met : goal.bounds-blocks-met
+bounds-blocks-met c = (c.requires.1 c.if-met-eq-GAP.false).body-in
 
-pub overflow_cast-at : goal.overflow_cast-at
-overflow_cast-at c = omega (arith, c.shared_slice_known-7-1.given c.args.met)
+pub offset_bounds-blocks-met-2 : goal.offset_bounds-blocks-met-2
+offset_bounds-blocks-met-2 c = let l = c.requires.1 c.if-met-eq-GAP.false in omega (arith, l.least_in)
 
-pub offset_bounds-los-met : goal.offset_bounds-los-met
-offset_bounds-los-met c = let l = c.requires.1 c.if-met-eq-GAP.false in omega (arith, l.least_in)
+pub bounds-blocks-met-2 : goal.bounds-blocks-met-2
+bounds-blocks-met-2 c = (c.requires.1 c.if-met-eq-GAP.false).least_in
 
-pub bounds-los-met : goal.bounds-los-met
-bounds-los-met c = (c.requires.1 c.if-met-eq-GAP.false).least_in
+pub offset_bounds-blocks-met-3 : goal.offset_bounds-blocks-met-3
+offset_bounds-blocks-met-3 c = let l = c.requires.1 c.if-met-eq-GAP.false in omega (arith, l.greatest_in)
 
-pub offset_bounds-his-met : goal.offset_bounds-his-met
-offset_bounds-his-met c = let l = c.requires.1 c.if-met-eq-GAP.false in omega (arith, l.greatest_in)
+pub bounds-blocks-met-3 : goal.bounds-blocks-met-3
+bounds-blocks-met-3 c = (c.requires.1 c.if-met-eq-GAP.false).greatest_in
 
-pub bounds-his-met : goal.bounds-his-met
-bounds-his-met c = (c.requires.1 c.if-met-eq-GAP.false).greatest_in
+pub offset_bounds-blocks-met-4 : goal.offset_bounds-blocks-met-4
+offset_bounds-blocks-met-4 c = let l = c.requires.1 c.if-met-eq-GAP.false in omega (arith, l.top_in)
 
-pub offset_bounds-tops-met : goal.offset_bounds-tops-met
-offset_bounds-tops-met c = let l = c.requires.1 c.if-met-eq-GAP.false in omega (arith, l.top_in)
+pub bounds-blocks-met-4 : goal.bounds-blocks-met-4
+bounds-blocks-met-4 c = (c.requires.1 c.if-met-eq-GAP.false).top_in
 
-pub bounds-tops-met : goal.bounds-tops-met
-bounds-tops-met c = (c.requires.1 c.if-met-eq-GAP.false).top_in
-
-pub bounds-counts-met : goal.bounds-counts-met
-bounds-counts-met c = (c.requires.1 c.if-met-eq-GAP.false).count-in
+pub bounds-blocks-met-5 : goal.bounds-blocks-met-5
+bounds-blocks-met-5 c = (c.requires.1 c.if-met-eq-GAP.false).count-in
 
 pub body_at-requires : goal.body_at-requires
 body_at-requires c = (c.requires.1 c.if-met-eq-GAP.false).whole

@@ -3,4 +3,4 @@ use Rattle.opening.proofs.Meets.{Moving}
 use Rattle.opening.proofs.meet.meet_all.Given as goal
 
 abbrev pub invariant-loop-t : goal.invariant-loop-t
-invariant-loop-t l = Moving l.los l.his l.ends l.initial.ats l.initial.mets l.ats l.mets l.d l.t
+invariant-loop-t l = Moving l.blocks.los.now l.blocks.his.now l.ends l.initial.ats l.initial.mets l.ats l.mets l.d l.t
