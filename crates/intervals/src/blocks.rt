@@ -5,6 +5,7 @@ ghost use Rattle.intervals.specs.Blocks.{Walked, room_for, Books};
 use crate::run::Run;
 use crate::stopped::Stopped;
 use model::refusal::Fault;
+use opening::table::Table;
 
 // How many intervals there are, and what the search found.
 #[derive(Drop)]
@@ -24,38 +25,38 @@ fn has_room(n: usize, a: usize, b: usize, c: usize) -> bool
 pub fn over_blocks(
     shelf: &[u8],
     ends: &[usize],
-    los: &[u32],
-    his: &[u32],
-    tops: &[u16],
-    counts: &[u8],
-    bodies: &[u32],
+    blocks: Table<'_>,
     weights: &[u8],
     k: usize,
     firsts: &mut [u32],
     ceilings: &mut [u32],
     marks: &mut [u8],
 ) -> Result<Booked, Stopped>
-    requires { Walked shelf.now ends.now los.now his.now tops.now counts.now bodies.now weights.now k }
-    ensures { Books shelf.now ends.now los.now his.now tops.now counts.now bodies.now weights.now k firsts.old ceilings.old marks.old firsts.new ceilings.new marks.new result }
+    requires { Walked shelf.now ends.now blocks.los.now blocks.his.now blocks.tops.now blocks.counts.now blocks.bodies.now weights.now k }
+    ensures { Books shelf.now ends.now blocks.entry.los.now blocks.entry.his.now blocks.entry.tops.now blocks.entry.counts.now blocks.entry.bodies.now weights.now k firsts.old ceilings.old marks.old firsts.new ceilings.new marks.new result }
 {
     let mut cuts = [0u32; 1024];
-    let m = prune::cut::all_cuts(ends, los, his, model::MAX_DOCID, &mut cuts);
+    let m = prune::cut::all_cuts(ends, blocks.los, blocks.his, model::MAX_DOCID, &mut cuts);
     let n = m + 1;
     if !has_room(n, firsts.len(), ceilings.len(), marks.len()) {
         return Err(Stopped::from(Fault::Room.at(0)));
     }
     crate::book::fill_firsts(&cuts, m, firsts);
     let mut tall = [0u32; 1025];
-    crate::book::fill_ceilings(&firsts[0..n], ends, los, his, tops, weights, &mut tall);
+    crate::book::fill_ceilings(
+        &firsts[0..n],
+        ends,
+        blocks.los,
+        blocks.his,
+        blocks.tops,
+        weights,
+        &mut tall,
+    );
     prune::cut::copy_run(&tall, n, ceilings);
     let found = crate::run::over_intervals(
         shelf,
         ends,
-        los,
-        his,
-        tops,
-        counts,
-        bodies,
+        blocks,
         weights,
         k,
         &firsts[0..n],

@@ -13,7 +13,8 @@ pub(crate) fn fill_firsts(cuts: &[u32], n: usize, firsts: &mut [u32])
     firsts[1..n + 1].copy_from_slice(&cuts[..n]);
 }
 
-// The ceilings, in a run of zeros: raised by one list after another.
+// The ceilings, in a run of zeros: raised by one list after another. Not over the `Table`: only of a run that is lent by itself is it known to the
+// proof that each score fits its 16 bits.
 pub(crate) fn fill_ceilings(
     starts: &[u32],
     ends: &[usize],

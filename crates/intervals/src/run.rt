@@ -5,6 +5,7 @@ ghost use Rattle.rank.specs.Rank.{kth};
 ghost use Rattle.rank.specs.Keep.{kept_of};
 ghost use Rattle.intervals.specs.Run.{last_at, Begins, Idles, Runnable, Runs};
 
+use opening::table::Table;
 use rank::keep::Kept;
 use scan::head::Head;
 use std::array;
@@ -57,19 +58,15 @@ fn kth_of(kept: Kept, k: usize) -> u32
 pub(crate) fn over_intervals(
     shelf: &[u8],
     ends: &[usize],
-    los: &[u32],
-    his: &[u32],
-    tops: &[u16],
-    counts: &[u8],
-    bodies: &[u32],
+    blocks: Table<'_>,
     weights: &[u8],
     k: usize,
     starts: &[u32],
     ceilings: &[u32],
     marks: &mut [u8],
 ) -> Result<Run, usize>
-    requires { Runnable shelf.now ends.now los.now his.now tops.now counts.now bodies.now weights.now k starts.now ceilings.now marks.old }
-    ensures { Runs shelf.now ends.now los.now his.now tops.now counts.now bodies.now weights.now k starts.now marks.old marks.new result }
+    requires { Runnable shelf.now ends.now blocks.los.now blocks.his.now blocks.tops.now blocks.counts.now blocks.bodies.now weights.now k starts.now ceilings.now marks.old }
+    ensures { Runs shelf.now ends.now blocks.entry.los.now blocks.entry.his.now blocks.entry.tops.now blocks.entry.counts.now blocks.entry.bodies.now weights.now k starts.now marks.old marks.new result }
 {
     let n = starts.len();
     let mut docs = [0u32; 800];
@@ -86,14 +83,10 @@ pub(crate) fn over_intervals(
         let first = starts[i];
         let last = last_of(starts, i);
         let was = mets;
-        opening::meet::meet_all(ends, los, his, first, &mut ats, &mut mets);
+        opening::meet::meet_all(ends, blocks, first, &mut ats, &mut mets);
         let turn = opening::turn::open(
             shelf,
-            los,
-            his,
-            tops,
-            counts,
-            bodies,
+            blocks,
             weights,
             &was,
             &mets,
