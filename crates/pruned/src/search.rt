@@ -7,6 +7,7 @@ ghost use Rattle.pruned.specs.Pruned.{Searchable, fitting, answer, searched, Ans
 use intervals::stopped::Stopped;
 use lookup::gather::Found;
 use model::refusal::Fault;
+use opening::table::Table;
 use rank::keep::Kept;
 
 // How many intervals there are, how many blocks an opened one met, how many blocks the query's lists have; the hits.
@@ -32,14 +33,22 @@ fn over_found(
     ensures { Answers (answer (fitting k (lists_from shelf.now weights found.ats found.counts) (length firsts.old) (length ceilings.old) (length marks.old)) firsts.old ceilings.old marks.old) firsts.new ceilings.new marks.new result }
 {
     let blocks = lookup::gather::gather(shelf, found, 8);
-    let ends = blocks.ends;
-    let los = blocks.los;
-    let his = blocks.his;
-    let tops = blocks.tops;
-    let counts = blocks.counts;
-    let bodies = blocks.bodies;
+    let table = Table {
+        los: &blocks.los,
+        his: &blocks.his,
+        tops: &blocks.tops,
+        counts: &blocks.counts,
+        bodies: &blocks.bodies,
+    };
     let booked = intervals::blocks::over_blocks(
-        shelf, &ends, &los, &his, &tops, &counts, &bodies, &weights, k, firsts, ceilings, marks,
+        shelf,
+        &blocks.ends,
+        table,
+        &weights,
+        k,
+        firsts,
+        ceilings,
+        marks,
     )?;
     Ok(Pruned {
         intervals: booked.intervals,
