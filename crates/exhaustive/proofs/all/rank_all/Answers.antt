@@ -17,11 +17,6 @@ returns-in_err-asked c =
     let r = c.in_err-asked.field-0.0 in
     rw (p.1, p.2) (all_asked _ _ _ (number r.fault) r.offset c.in_err-asked.ensures)
 
-pub find_terms-requires : goal.find_terms-requires
-find_terms-requires c =
-    let g = c.in_ok-asked.ensures in
-    carried_few _ g.0 c.in_ok-asked.asked (λ i. omega (arith, c.type_inv.query i)) g.1 g.2
-
 pub returns-in_err-found : goal.returns-in_err-found
 returns-in_err-found c =
     let g = c.in_ok-asked.ensures in

@@ -11,10 +11,6 @@ use Rattle.std.specs.Prelude.{IsSome}
 use mathlib.Core.Option.{Option, none}
 use Rattle.exhaustive.proofs.all.rank_found.Goals as goal
 
-pub first_wrong-requires : goal.first_wrong-requires
-first_wrong-requires c = (c.requires.walked, c.requires.addressed)
-
--- where some body is wrong a first one is found
 found_some : (r : prelude.Option ℕ) (f : Option ℕ) → wrong_of r ≡ f → (f ≡ none → ⊥) → IsSome r
 found_some (prelude.Some o) f e n = refl
 found_some prelude.None f e n = absurd (n (sym e))
@@ -33,8 +29,3 @@ returns-in_default c =
     let n : length a.ats ≡ 8 = c.well_formed.1.0.1.0.1 in
     let first = c.first_wrong.ensures ∙ start-fault a.shelf.now a.weights a.ats a.counts (omega arith) in
     rw c.at.ensures (fault_refuses a.k (lists_from a.shelf.now a.weights a.ats a.counts) c.unwrap-at.result (sym first ∙ ap wrong_of c.unwrap-at.ensures))
-
-pub returns : goal.returns
-returns c =
-    let b = c.in-Ok.ensures in
-    record { answer = sym b.ranked; few = omega (arith, b.few, c.requires.most); whole = b.whole }

@@ -1,11 +1,8 @@
 -- `fill` meets its contract: the lists are brought on one after another (`Fillings`). Assumes nothing.
 use native.Mathlib.Omega.{arith}
 use Rattle.std.proofs.lemmas.Result.{err_from_is_err_and}
-use Rattle.exhaustive.proofs.Fillings.{line_at, filling_none, filling_turn, filling_wrong, filling_done}
+use Rattle.exhaustive.proofs.Fillings.{line_at, filling_turn, filling_wrong, filling_done}
 use Rattle.exhaustive.proofs.fill.fill.Goals as goal
-
-pub loop-t-init : goal.loop-t-init
-loop-t-init c = filling_none _ _ _ _ _ c.requires
 
 pub refill-requires : goal.refill-requires
 refill-requires c =

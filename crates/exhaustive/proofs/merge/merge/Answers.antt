@@ -16,18 +16,12 @@ use Rattle.exhaustive.proofs.Merges.{merging_none, merging_wrong, merging_done, 
 use Rattle.std.proofs.lemmas.Result.{err_from_is_err_and}
 use Rattle.exhaustive.proofs.merge.merge.Goals as goal
 
-pub open_all-requires : goal.open_all-requires
-open_all-requires c = c.requires.addressed
-
 pub loop-filled-init : goal.loop-filled-init
 loop-filled-init c =
     let lines : (ds ss : List ℕ) → length ds ≡ roomy → length ss ≡ roomy →
     Lines c.args.shelf.now ds ss c.open_all.result.heads c.open_all.result.lefts = λ ds ss d e. rw (c.open_all.ensures.heads, c.open_all.ensures.lefts)
     (start-lines c.args.shelf.now ds ss c.args.weights c.args.ats c.args.counts d e c.well_formed.1.1.1.0.1.0.1 c.well_formed.1.0.1.0.1 c.well_formed.1.1.0.1.0.1 c.requires.walked) in
     merging_none _ _ _ _ _ _ _ _ _ (lines _ _ refl refl) refl refl c.new-kept.ensures
-
-pub fill-requires : goal.fill-requires
-fill-requires c = c.loop-filled.invariant.lines
 
 pub returns-then-last-eq-END : goal.returns-then-last-eq-END
 returns-then-last-eq-END c =

@@ -1,6 +1,6 @@
 -- `open_all` meets its contract: what stands at each place of the heads, and what is left filled from the front. Assumes nothing.
 use Prim.Native.Nat.{◌+◌}
-use mathlib.Core.Path.{◌≡◌, refl, sym, ap, ◌∙◌}
+use mathlib.Core.Path.{◌≡◌, sym, ap, ◌∙◌}
 use native.Mathlib.Omega.{arith}
 use lib.ListN.{length, get_or, length-set}
 use lib.Seq.{ext_get_or}
@@ -11,12 +11,6 @@ use Rattle.exhaustive.specs.declared.fill.Left.{Left}
 use Rattle.exhaustive.proofs.Fillings.{no_left}
 use Rattle.exhaustive.proofs.Opens.{front-turn, front-done, heads-long, heads-at, lefts-long, lefts-at, addressed-at}
 use Rattle.exhaustive.proofs.merge.open_all.Goals as goal
-
-pub reading_at-requires : goal.reading_at-requires
-reading_at-requires c = λ l. omega arith
-
-pub loop-t-init : goal.loop-t-init
-loop-t-init c = (refl, refl)
 
 pub reading_at-requires-in-loop-t : goal.reading_at-requires-in-loop-t
 reading_at-requires-in-loop-t c =

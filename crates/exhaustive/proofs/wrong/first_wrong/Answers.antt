@@ -1,5 +1,5 @@
 -- `first_wrong` meets its contract: what is left of the lists takes what was met on to the answer (`Wrongs`). Assumes nothing.
-use mathlib.Core.Path.{◌≡◌, refl, sym, ap, ◌∙◌}
+use mathlib.Core.Path.{◌≡◌, sym, ap, ◌∙◌}
 use mathlib.Core.Option.{Option}
 use native.Mathlib.Omega.{arith}
 use lib.ListN.{length, get_or}
@@ -11,9 +11,6 @@ use Rattle.exhaustive.specs.Merge.{on_shelf, reading_at, wrong_of}
 use Rattle.exhaustive.proofs.Opens.{addressed-at}
 use Rattle.exhaustive.proofs.Wrongs.{walked_at, lists-turn, lists-done}
 use Rattle.exhaustive.proofs.wrong.first_wrong.Goals as goal
-
-pub loop-at-init : goal.loop-at-init
-loop-at-init c = refl
 
 pub reading_at-blocks-requires : goal.reading_at-blocks-requires
 reading_at-blocks-requires c =
