@@ -13,18 +13,9 @@ use Rattle.rank.proofs.Keepings.{kept_on_lem}
 use Rattle.scan.specs.Heads.{blank, InBuffers, step_if}
 use Rattle.scan.specs.declared.head.Head.{Head}
 use Rattle.scan.proofs.Heads.{least-top, least-done, sum-done, step-done, product, idle-step, All_at, step-turn, step_stay, sum-here, sum_stay}
-use Rattle.scan.proofs.Turns.{running_none, running_turn, fewer-left, run-ended}
+use Rattle.scan.proofs.Turns.{running_turn, fewer-left, run-ended}
 use Rattle.scan.proofs.run.run.Goals.{else-h-d, then-h-d}
 use Rattle.scan.proofs.run.run.Goals as goal
-
-pub loop-h-init : goal.loop-h-init
-loop-h-init c = (
-  running_none _ _ _ _ _ _ _ _
-      (c.well_formed.1.1.1.1.1.0.1.1.0.1.0.1)
-      (c.well_formed.1.1.1.1.1.0.1.1.1.0.1.0.1)
-      c.well_formed.1.1.0.1.0.1 c.requires.room c.requires.order c.requires.inside c.requires.parts,
-  c.in_use-m.ensures.1,
-)
 
 pub loop-h-2-init : goal.loop-h-2-init
 loop-h-2-init c = (omega arith, sym (min-eq_right (least-top (take c.in_use-m.result c.loop-h.hs))))

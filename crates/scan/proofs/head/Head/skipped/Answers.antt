@@ -1,14 +1,8 @@
 -- `Head::skipped` meets its contract: past each posting below `first`, what is left from `first` on is the same. Assumes nothing.
-use mathlib.Core.Path.{refl, sym, ◌∙◌}
+use mathlib.Core.Path.{sym, ◌∙◌}
 use native.Mathlib.Omega.{arith}
 use Rattle.scan.proofs.Terms.{next-stays, next-own, skip_turn, skip_less, skip_stop, head-turn, head-stop}
 use Rattle.scan.proofs.head.Head.skipped.Goals as goal
-
-pub loop-h-init : goal.loop-h-init
-loop-h-init c = (c.requires.0, refl, λ t o. o, refl)
-
-pub next-h-requires : goal.next-h-requires
-next-h-requires c = c.loop-h.invariant.0
 
 pub loop-h-smaller : goal.loop-h-smaller
 loop-h-smaller c =
