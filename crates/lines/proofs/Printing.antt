@@ -25,7 +25,7 @@ rows_cons n i ds ss e m h =
     let l : i < length (take n (postings ds ss)) = omega (arith, length-take-le n (postings ds ss) (omega (arith, rows-length ds ss e))) in
     rw (add-one i, drop-cons (take n (postings ds ss)) i (post 0 0) l, get_or-take n (postings ds ss) i (post 0 0) h, rows_get_d ds ss i (omega arith) (omega arith))
 
-hits_more : (rank n i : ℕ) (ds ss : List ℕ) → length ds ≡ length ss → n ≤ length ds → i < n →
+pub hits_more : (rank n i : ℕ) (ds ss : List ℕ) → length ds ≡ length ss → n ≤ length ds → i < n →
     hit_lines rank (drop i (take n (postings ds ss))) ≡ hit_line rank (post (get_or ds i 0) (get_or ss i 0)) ++ hit_lines (rank + 1) (drop (i + 1) (take n (postings ds ss)))
 unfolding hit_lines
 hits_more rank n i ds ss e m h = rw (rows_cons n i ds ss e m h)
