@@ -72,3 +72,20 @@ module _ {F : Type 0} (g : Once F (Bor (List ℕ) × (MutBor (List ℕ) × Unit 
   -- what is said is the program's with the answer of f, whichever that is
   abbrev pub Speaks_with : (name : List ℕ) (input : Option (Bor (List ℕ))) (out err out' err' : List ℕ) (r : Said) → Type 0
   Speaks_with name input out err out' err' r = (answer_to : List ℕ → List ℕ) → Answers answer_to → Speaks name (is_some input) (answer_to (input_of input)) out err out' err' r
+
+  -- what one call of f with this input and this run told, and what it left in the run
+  pub record Answered (input : Bor (List ℕ)) (out out' : List ℕ) (n : ℕ) : Type 0 where
+    pub shown : MutBor (List ℕ)
+    pub shows : shown.now ≡ out
+    pub left : MutBor (List ℕ)
+    pub met : g.post f (input, (shown, tt)) (n, (left, tt))
+    pub leaves : left.now ≡ out'
+
+  -- without room, and where there is no input, what is said is known, whatever f is; otherwise it is what f answered, and nothing goes to standard error
+  abbrev pub Responds_in : (room : Bool) (name : List ℕ) (input : Option (Bor (List ℕ))) (out err out' err' : List ℕ) (r : Said) → Type 0
+  Responds_in false name input out err out' err' r = Says (words_of false (is_some input) name []) out err out' err' r
+  Responds_in true name None out err out' err' r = Says (words_of true false name []) out err out' err' r
+  Responds_in true name (Some b) out err out' err' r = Answered b out out' r.out × Holds err [] err' r.err
+
+  abbrev pub Responds : (name : List ℕ) (input : Option (Bor (List ℕ))) (out err out' err' : List ℕ) (r : Said) → Type 0
+  Responds name input out err out' err' r = Responds_in (roomy name (length out) (length err)) name input out err out' err' r

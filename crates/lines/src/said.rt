@@ -1,5 +1,5 @@
 // What a program says, and when it says nothing: the rule for an input that could not be read, and for room that is too small.
-ghost use Rattle.lines.specs.Said.{Begun, Asked, Speaks_with};
+ghost use Rattle.lines.specs.Said.{Begun, Asked, Responds, Speaks_with};
 
 // The room that every output has.
 const MAX_OUTPUT: usize = 65536;
@@ -42,7 +42,8 @@ pub fn respond<F: FnOnce(&[u8], &mut [u8]) -> usize>(
     answer: F,
 ) -> Said
     requires { Asked F.FnOnce answer }
-    ensures { Speaks_with F.FnOnce answer name.now input.entry out.old err.old out.new err.new result }
+    ensures exact { Responds F.FnOnce answer name.now input.entry out.old err.old out.new err.new result }
+    ensures spoken { Speaks_with F.FnOnce answer name.now input.entry out.old err.old out.new err.new result }
 {
     match begin(name, input, out.len(), err) {
         Ok(bytes) => Said {
