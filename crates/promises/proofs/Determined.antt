@@ -1,10 +1,14 @@
--- "Each public function's contract determines its return and the final content of every lent run": those contracts of reading, writing and searching that
--- are no equation allow one outcome only, for what is returned and for each run that was lent. Assumes nothing.
+-- "Each public function's contract determines its return and the final content of every lent run": those contracts of reading, writing and searching, and
+-- of what a program says, that are no equation allow one outcome only, for what is returned and for each run that was lent. Assumes nothing.
 use Prim.Native.Nat.{ℕ, ◌+◌, ◌-◌, ◌≤◌, ◌<◌}
 use mathlib.Core.Path.{◌≡◌, refl, sym, ap, ◌∙◌}
 use mathlib.Core.Option.{none, some}
 use Rattle.std.specs.Prelude.{Option, Some, None, Result, Ok, Err}
-use mathlib.Core.List.{List, [], ◌∷◌}
+use Rattle.std.specs.Borrow.{Bor, MutBor}
+use Rattle.std.specs.Fn.{Once}
+use Rattle.std.specs.Option.{is_some}
+use mathlib.Core.Bool.{Bool, true, false}
+use mathlib.Core.List.{List, [], ◌∷◌, ◌++◌}
 use native.Mathlib.Omega.{arith}
 use lib.Dec.{ltb}
 use lib.ListN.{length, get_or, take, drop, length-take, length-drop}
@@ -14,6 +18,7 @@ use Rattle.model.specs.Limits.{max_k, max_terms, max_docid}
 use Rattle.model.specs.Outcome.{Outcome, refused, done}
 use Rattle.model.specs.Post.{Post, post, postings}
 use Rattle.model.specs.Refusal.{number, refusal, outcome_of}
+use Rattle.model.specs.Runs.{Holds}
 use Rattle.model.specs.declared.refusal.Fault.{Fault}
 use Rattle.model.specs.declared.refusal.Fault.TheVariants as fault
 use Rattle.model.specs.declared.refusal.Refusal.{Refusal}
@@ -56,6 +61,8 @@ use Rattle.exhaustive.specs.Exhaustive.{Answers as Ranks}
 use Rattle.pruned.specs.Pruned.{Answer, BookIs, Answers}
 use Rattle.pruned.specs.declared.search.Pruned.{Pruned}
 use Rattle.intervals.specs.declared.stopped.Stopped.{Stopped}
+use Rattle.lines.specs.Said.{Words, words_of, roomy, Says, Speaks, Responds_in, Responds}
+use Rattle.lines.specs.declared.said.Said.{Said}
 
 -- what cannot be
 never : {C : Type 0} → ◌≡◌ {A = ℕ} 0 1 → C
@@ -331,3 +338,38 @@ search-one o fs cs ms fs' cs' ms' (Err r) (Err q) a b =
     let book = book-same o r.intervals q.intervals fs cs ms fs' cs' ms' a.book b.book in
     let refusal = refused-one r.refusal q.refusal (a.outcome ∙ sym b.outcome) in
     (λ i. Err (record { refusal = refusal i; intervals = book.0 i }), book.1, book.2, book.3)
+
+-- ---- what the programs say
+
+holds_one : (old xs new new' : List ℕ) (n m : ℕ) → Holds old xs new n → Holds old xs new' m → (n ≡ m) × (new ≡ new')
+holds_one old xs new new' n m a b = let e : n ≡ m = a.count ∙ sym b.count in (e, a.whole ∙ ap (λ (r : ℕ). xs ++ drop r old) e ∙ sym b.whole)
+
+said_one : (r q : Said) → r.out ≡ q.out → r.err ≡ q.err → r ≡ q
+said_one r q o e = λ i. record { out = o i; err = e i }
+
+says_one : (w : Words) (out err out' err' out'' err'' : List ℕ) (r q : Said) → Says w out err out' err' r → Says w out err out'' err'' q → (r ≡ q) × (out' ≡ out'') × (err' ≡ err'')
+says_one w out err out' err' out'' err'' r q a b =
+    let o = holds_one out w.out out' out'' r.out q.out a.output b.output in
+    let e = holds_one err w.err err' err'' r.err q.err a.error b.error in
+    (said_one r q o.0 e.0, o.1, e.1)
+
+-- `report::report::respond` and `checking::verdict::respond`
+pub speaks_one : (name : List ℕ) (read : Bool) (answer out err out' err' out'' err'' : List ℕ) (r q : Said)
+    → Speaks name read answer out err out' err' r → Speaks name read answer out err out'' err'' q → (r ≡ q) × (out' ≡ out'') × (err' ≡ err'')
+speaks_one name read answer out err = says_one (words_of (roomy name (length out) (length err)) read name answer) out err
+
+-- `lines::said::respond`, where what answers allows one outcome only: two calls of it with one input, and with runs that hold what `out` does, tell the same
+-- number and leave the same
+module _ {F : Type 0} (g : Once F (Bor (List ℕ) × (MutBor (List ℕ) × Unit {0})) (ℕ × (MutBor (List ℕ) × Unit {0}))) (f : F) (name out err out' err' out'' err'' : List ℕ) (r q : Said)
+    (one : (i : Bor (List ℕ)) (o o' p p' : MutBor (List ℕ)) (n m : ℕ) → o.now ≡ out → p.now ≡ out → g.post f (i, (o, tt)) (n, (o', tt)) → g.post f (i, (p, tt)) (m, (p', tt)) → (n ≡ m) × (o'.now ≡ p'.now)) where
+  responds-in : (room : Bool) (input : Option (Bor (List ℕ))) → Responds_in g f room name input out err out' err' r → Responds_in g f room name input out err out'' err'' q
+      → (r ≡ q) × (out' ≡ out'') × (err' ≡ err'')
+  responds-in false input a b = says_one (words_of false (is_some input) name []) out err out' err' out'' err'' r q a b
+  responds-in true None a b = says_one (words_of true false name []) out err out' err' out'' err'' r q a b
+  responds-in true (Some i) (a, h) (b, k) =
+      let o = one i a.shown a.left b.shown b.left r.out q.out a.shows b.shows a.met b.met in
+      let e = holds_one err [] err' err'' r.err q.err h k in
+      (said_one r q o.0 e.0, sym a.leaves ∙ o.1 ∙ b.leaves, e.1)
+
+  pub responds_one : (input : Option (Bor (List ℕ))) → Responds g f name input out err out' err' r → Responds g f name input out err out'' err'' q → (r ≡ q) × (out' ≡ out'') × (err' ≡ err'')
+  responds_one input = responds-in (roomy name (length out) (length err)) input
