@@ -7,7 +7,9 @@ pub fn copy(out: &mut [u8], at: usize, s: &[u8], from: usize, to: usize) -> usiz
     requires { (from ≤ to) × (to ≤ length s.now) × (at + (to - from) ≤ length out.old) }
     ensures { Stored out.old out.new at result (take (to - from) (drop from s.now)) }
 {
-    let end = at + (to - from);
-    out[at..end].copy_from_slice(&s[from..to]);
-    end
+    // A loop, as the archives for C are to need no function from outside for it: `copy_from_slice` is a call of `memmove` there.
+    for i in from..to {
+        out[at + (i - from)] = s[i];
+    }
+    at + (to - from)
 }

@@ -1,13 +1,13 @@
--- `change::copy::copy` meets its contract: the bytes written are those copied. Assumes nothing.
+-- `change::copy::copy` meets its contract. The invariant: what is left to copy stands where it is due (`Copies`). Assumes nothing.
 use Prim.Native.Nat.{◌+◌, ◌-◌}
+use mathlib.Core.Path.{◌≡◌}
 use native.Mathlib.Omega.{arith}
-use Rattle.model.proofs.Storing.{stored_over}
-use Rattle.change.proofs.Copies.{up_to, up-length}
+use Rattle.change.proofs.Copies.{copy-turn}
 use Rattle.change.proofs.copy.copy.Goals as goal
 
-pub returns : goal.returns
-returns c =
+pub loop-i-preserved : goal.loop-i-preserved
+loop-i-preserved c =
     let a = c.args in
-    let v = up_to a.to a.s.now a.from in
-    let n = up-length a.to a.s.now a.from c.requires.1 in
-    stored_over a.out.now v c.copy_from_slice.new.self a.at (a.to - a.from) (a.at + (a.to - a.from) - a.at) c.copy_from_slice.ensures.after n (omega arith) (omega arith)
+    let l = c.loop-i in
+    let onward : a.at + (l.i + 1 - a.from) ≡ a.at + (l.i - a.from) + 1 = omega (arith, l.auto.i) in
+    rw onward (copy-turn a.s.now a.from a.to a.out.now a.at c.requires.1 l.out l.i (a.at + (l.i - a.from)) c.loop-i-test.true l.invariant)
