@@ -1,15 +1,16 @@
 -- Terms and weights, put one by one into runs of zeros. Assumes nothing.
 use Prim.Native.Nat.{ℕ, ◌+◌, ◌-◌, ◌≤◌, ◌<◌}
 use native.Mathlib.Omega.{arith}
-use mathlib.Core.Path.{◌≡◌, refl}
+use mathlib.Core.Path.{◌≡◌, refl, ◌∙◌}
 use mathlib.Core.List.{List, [], ◌∷◌, map}
 use lib.ListN.{length, set, drop}
 use Rattle.model.specs.Limits.{max_terms}
 use Rattle.model.specs.Runs.{Stored, Holds}
 use Rattle.model.proofs.Lists.{map-length}
 use Rattle.model.proofs.Storing.{Rest, rest-turn, rest_end, stored-holds}
-use Rattle.query.specs.Query.{Asked, term_at, asked_in, terms_in, question}
+use Rattle.query.specs.Query.{Asked, Question, term_at, asked_in, terms_in, question}
 use Rattle.query.specs.Answers.{zeros, Carries}
+use Rattle.query.specs.declared.read.Query.{Query}
 use Rattle.query.proofs.Parts.{terms-length, terms-none, terms-more}
 
 -- one number of each term: those from index i on are left to store
@@ -52,3 +53,7 @@ module _ (s : List ℕ) (n i : ℕ) (terms weights : List ℕ) (c : Filling s n 
         terms = part_end (λ a. a.term) s n i terms few e c.termed;
         weights = part_end (λ a. a.weight) s n i weights few e c.weighed;
       }
+
+-- what is handed on has as many terms as the question
+pub carried_count : (x : Question) (q : Query) → Carries x q → q.n ≡ length x.terms
+carried_count x q c = c.terms.count ∙ map-length (λ (a : Asked). a.term) x.terms
