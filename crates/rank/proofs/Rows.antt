@@ -18,10 +18,26 @@ use Rattle.rank.specs.Keep.{put_at}
 use Rattle.std.specs.List.{copy_within}
 
 -- An element put in
+pub put-here {ℓ} : {A : Type ℓ} (p : ℕ) (x z : A) (a : List A) → p ≤ length a → get_or (put_at p x a) p z ≡ x
+put-here zero x z a l = refl
+put-here (suc p) x z [] l = absurd (omega arith)
+put-here (suc p) x z (y ∷ ys) l = put-here p x z ys (omega arith)
+
+pub put-past {ℓ} : {A : Type ℓ} (p i : ℕ) (x z : A) (a : List A) → p ≤ i → get_or (put_at p x a) (suc i) z ≡ get_or a i z
+put-past zero i x z a l = refl
+put-past (suc p) zero x z a l = absurd (omega arith)
+put-past (suc p) (suc i) x z [] l = refl
+put-past (suc p) (suc i) x z (y ∷ ys) l = put-past p i x z ys (omega arith)
+
 pub put-length {ℓ} : {A : Type ℓ} (p : ℕ) (x : A) (a : List A) → length (put_at p x a) ≡ suc (length a)
 put-length zero x a = refl
 put-length (suc p) x [] = refl
 put-length (suc p) x (y ∷ ys) = ap suc (put-length p x ys)
+
+pub put_front {ℓ} : {A : Type ℓ} (p : ℕ) (x : A) (a : List A) → p ≤ length a → take p (put_at p x a) ++ drop p a ≡ a
+put_front zero x a l = refl
+put_front (suc p) x [] l = absurd (omega arith)
+put_front (suc p) x (y ∷ ys) l = ap {B = List _} (λ t. y ∷ t) (put_front p x ys (omega arith))
 
 pub put-take {ℓ} : {A : Type ℓ} (p n : ℕ) (x : A) (xs : List A) → p ≤ n → n ≤ length xs → put_at p x (take n xs) ≡ take (suc n) (put_at p x xs)
 put-take zero n x xs l m = refl
