@@ -5,7 +5,7 @@ use mathlib.Core.Bool.{◌&&◌}
 use mathlib.Core.List.{List, [], ◌∷◌, ◌++◌}
 use native.Mathlib.Omega.{arith}
 use native.Mathlib.Numerals.{add-one}
-use lib.ListN.{length, get_or, take, drop, set, length-set}
+use lib.ListN.{length, get_or, take, drop, set, length-set, take-append-drop}
 use lib.Seq.{take-suc, length-take-le}
 use Rattle.model.specs.Runs.{adds, has, Asc, All, Holds}
 use Rattle.prune.specs.Cut.{keeps_cut, add_cut, add_cuts}
@@ -85,6 +85,14 @@ up_pair n k [] his l e u = absurd (omega arith)
 up_pair n k (x ∷ los) [] l e u = absurd (omega arith)
 up_pair n zero (x ∷ los) (y ∷ his) l e u = u.1.0
 up_pair n (suc k) (x ∷ los) (y ∷ his) l e u = up_pair (y + 1) k los his (omega arith) (omega arith) u.1.1
+
+pub after-fits : (lim k : ℕ) (los his : List ℕ) → Blocks lim los his → k < length los → get_or his k 0 ≤ lim
+after-fits lim k los his b l = at k his (omega (arith, b.even)) b.most
+  where
+    at : (i : ℕ) (xs : List ℕ) → i < length xs → All (λ g. g ≤ lim) xs → get_or xs i 0 ≤ lim
+    at i [] l all = absurd (omega arith)
+    at zero (x ∷ xs) l all = all.0
+    at (suc i) (x ∷ xs) l all = at i xs (omega arith) all.1
 
 -- The state: `cs`, with the cuts of the first `k` blocks put in, stands at the front, `n` long
 pub record Gathering (lim : ℕ) (cs los his old out : List ℕ) (n k : ℕ) : Type 0 where
@@ -204,3 +212,8 @@ module _ (lim : ℕ) (los his old one : List ℕ) (m : ℕ) (h : Holds old (add_
 
     pub merge-whole : (new : List ℕ) (t : ℕ) → Holds run (take r both) new t → Holds run (add_cuts lim (take n run) (edges_of los his)) new t
     merge-whole new t j = rw merge-taken at j
+
+-- a list without blocks adds no cut
+pub none_added : (lim n : ℕ) (los his run : List ℕ) → length los ≡ 0 → n ≤ length run → Holds run (add_cuts lim (take n run) (edges_of los his)) run n
+none_added lim n [] his run e l = record { count = sym (length-take-le n run l); whole = sym (take-append-drop n run) }
+none_added lim n (x ∷ los) his run e l = absurd (omega arith)

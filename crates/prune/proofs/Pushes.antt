@@ -7,7 +7,7 @@ use native.Mathlib.Omega.{arith}
 use lib.Dec.{ltb, eqb}
 use lib.ListN.{length, get_or, take, set, length-set}
 use lib.Seq.{length-take-le, get_or-take}
-use borrow.Author.Tests.{ltb-true, ltb-false, lt-ltb, le-ltb, le-leb, eqb-true, eq-eqb}
+use borrow.Author.Tests.{ltb-true, ltb-false, lt-ltb, le-ltb, le-leb, lt-leb, eqb-true, eq-eqb}
 use Rattle.model.specs.Runs.{add, has, Asc, All, Holds}
 use Rattle.prune.specs.Cut.{keeps_cut, add_cut}
 use Rattle.model.proofs.Lists.{split, both_ways, or_true, All_map}
@@ -51,6 +51,12 @@ add-grows c (x ∷ xs) =
 
 -- A cut that is dropped, and one that is kept
 module _ (lim c : ℕ) (cs : List ℕ) where
+  pub cut_low : c ≤ 1 → add_cut lim cs c ≡ cs
+  cut_low l = rw (le-ltb 1 c l)
+
+  pub cut_high : lim < c → add_cut lim cs c ≡ cs
+  cut_high l = split (ltb 1 c) (λ e. rw (e, lt-leb c lim l)) (λ e. rw e)
+
   pub cut-kept : 1 < c → c ≤ lim → add_cut lim cs c ≡ add c cs
   cut-kept l h = rw (lt-ltb 1 c l, le-leb c lim h)
 
