@@ -51,7 +51,7 @@ sum_front d hs zero l a = sym (sum-idle d hs l a)
 sum_front d [] (suc n) l a = refl
 sum_front d (h ∷ hs) (suc n) l a = ap (λ t. cond (eqb h.doc d) (h.weight * h.score) 0 + t) (sum_front d hs n l a)
 
-step_past : (ds ss : List ℕ) (d : ℕ) (hs : List Head) (i : ℕ) → d < none → Idle i hs → map (step_if ds ss d) (take i hs) ++ drop i hs ≡ map (step_if ds ss d) hs
+pub step_past : (ds ss : List ℕ) (d : ℕ) (hs : List Head) (i : ℕ) → d < none → Idle i hs → map (step_if ds ss d) (take i hs) ++ drop i hs ≡ map (step_if ds ss d) hs
 step_past ds ss d hs i l a =
     ap {B = List Head} (λ t. map (step_if ds ss d) (take i hs) ++ t) (sym (step-idle ds ss d (drop i hs) l a))
     ∙ sym (map-append (step_if ds ss d) (take i hs) (drop i hs))
