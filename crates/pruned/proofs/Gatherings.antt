@@ -129,10 +129,10 @@ module _ (s ats sizes : List ℕ) (k : ℕ) (r : Blocks) (g : Tabled s ats sizes
   tops-long : length r.tops ≡ max_blocks
   tops-long = run_long top r.tops laid.tops
 
-  counts-long : length r.counts ≡ max_blocks
+  pub counts-long : length r.counts ≡ max_blocks
   counts-long = run_long count r.counts laid.counts
 
-  bodies-long : length r.bodies ≡ max_blocks
+  pub bodies-long : length r.bodies ≡ max_blocks
   bodies-long = run_long tag_at r.bodies laid.bodies
 
   row_is : (f : shelf.Block → ℕ) (run : List ℕ) → Holds (replicate max_blocks 0) (map f all) run r.n → (i : ℕ) → i < length all → get_or run i 0 ≡ f (get_or all i no_block)
