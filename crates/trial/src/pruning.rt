@@ -85,7 +85,7 @@ pub(crate) fn search_only(query: &[u8], shelf: &[u8]) -> Result<Pruned, Refusal>
 // Whether the two rankers' answers agree, on a shelf that may be wrong.
 pub(crate) fn agree(all: &Result<Kept, Refusal>, pruned: &Result<Pruned, Refusal>) -> bool {
     match (all, pruned) {
-        (Ok(ours), Ok(theirs)) => rows(ours) == rows(&theirs.kept),
+        (Ok(ours), Ok(theirs)) => ours.n == theirs.kept.n && rows(ours) == rows(&theirs.kept),
         (Ok(_), Err(_)) => false,
         (Err(refusal), _) => allows(*refusal, pruned),
     }

@@ -18,7 +18,7 @@ impl Rows<u32, ROWS> {
 
     // Whether a ranker kept these hits.
     pub(crate) fn are_kept(&self, kept: &Kept) -> bool {
-        rows(kept) == (self.docids(), self.scores())
+        kept.n == self.len() && rows(kept) == (self.docids(), self.scores())
     }
 }
 
