@@ -58,7 +58,7 @@ module _ (t : Kept) (l : List Hit) (n : ℕ) (h : Counts t (length l) n) where
   pub one_more : (i : ℕ) → i < length (take n l) → set (with_hits (first_hits t i) (take n l)) i (hit_at t i) ≡ with_hits (first_hits t (i + 1)) (take n l)
   one_more i lt = rw add-one (turn t.docids t.scores i (take n l) (omega (arith, length-take n l, length-take t.n ps, h.count)) lt)
 
-  first-all : first_hits t n ≡ take (length l) (kept_of t)
+  pub first-all : first_hits t n ≡ take (length l) (kept_of t)
   first-all = sym (take-take n t.n ps (omega (arith, length-take t.n ps, h.count))) ∙ cut_at (kept_of t) (length l) n h.count
 
   pub all_written : (i : ℕ) → i ≡ length (take n l) → with_hits (first_hits t i) (take n l) ++ drop n l ≡ with_hits (take (length l) (kept_of t)) l
