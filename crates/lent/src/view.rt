@@ -7,9 +7,9 @@ ghost use Rattle.lookup.specs.Show.{summary_shown, body_shown};
 ghost use Rattle.lent.specs.View.{Shows};
 
 use block::summary::Summary;
+use lookup::find::Span;
 use model::refusal::Refusal;
 use shelf::walk::Place;
-use std::ops::Range;
 
 // The shelf itself, and the list's place in it or the refusal.
 #[derive(Drop)]
@@ -37,7 +37,7 @@ pub fn summary<'a>(v: ListView<'a>, j: usize) -> Result<Summary, Refusal>
 #[derive(Drop)]
 pub struct BodyPart<'a> {
     pub bytes: &'a [u8],
-    pub at: Range<usize>,
+    pub at: Span,
 }
 
 // The body of block `j`: the view's refusal, or 12 where the block is not there.

@@ -8,7 +8,7 @@ use Rattle.block.specs.Body.{is_strip, tag_of}
 use Rattle.shelf.specs.Walk.{Block, bodies}
 use Rattle.block.specs.declared.summary.Summary.{Summary}
 use Rattle.shelf.specs.declared.walk.Place.{Place}
-use Rattle.std.specs.declared.ops.Range.{Range}
+use Rattle.lookup.specs.declared.find.Span as declared
 
 -- where the bodies of a list begin
 abbrev pub bodies_from : Place → ℕ
@@ -25,7 +25,7 @@ summary_shown s (done p) j = cond (has_block s p j) (done (sum_of (is_strip (dro
 
 -- a part of the shelf: where it starts, and the place past it
 abbrev pub Span : Type 0
-Span = Range ℕ
+Span = declared.Span
 
 -- the body whose tag stands at a place: where its value starts and ends
 unfoldable pub part_at : List ℕ → ℕ → Outcome Span

@@ -8,7 +8,6 @@ ghost use Rattle.lookup.specs.Show.{has_block, part_at, summary_shown, body_show
 use block::summary::Summary;
 use model::refusal::{Fault, Refusal};
 use shelf::walk::{Place, Walk};
-use std::ops::Range;
 
 // ---- the list of a term
 
@@ -60,8 +59,15 @@ pub fn summary_shown(s: &[u8], shown: Result<Place, Refusal>, j: usize) -> Resul
     Ok(block::summary::summary_in(s, list.at + 8 + 12 * j, strip))
 }
 
+// A part of the shelf: where it starts, and the place past it.
+#[derive(Clone, Copy)]
+pub struct Span {
+    pub start: usize,
+    pub end: usize,
+}
+
 // The part of the shelf that is the value of the body at a place.
-fn part_at(s: &[u8], at: usize) -> Result<Range<usize>, Refusal>
+fn part_at(s: &[u8], at: usize) -> Result<Span, Refusal>
     ensures { outcome_of result ≡ part_at s.now at }
 {
     let tag = block::body::tag_of(block::body::is_strip(s, at));
@@ -69,15 +75,14 @@ fn part_at(s: &[u8], at: usize) -> Result<Range<usize>, Refusal>
         return Err(Fault::Absent.at(0));
     };
     let start = at + 3;
-    Ok(start..start + len)
+    Ok(Span {
+        start,
+        end: start + len,
+    })
 }
 
 // Where the value of the body of block `j` of a list shown in place stands: past the bodies before it.
-pub fn body_shown(
-    s: &[u8],
-    shown: Result<Place, Refusal>,
-    j: usize,
-) -> Result<Range<usize>, Refusal>
+pub fn body_shown(s: &[u8], shown: Result<Place, Refusal>, j: usize) -> Result<Span, Refusal>
     ensures { outcome_of result ≡ body_shown s.now (outcome_of shown) j }
 {
     let list = shown?;
