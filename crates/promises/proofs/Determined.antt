@@ -34,7 +34,10 @@ use Rattle.shelf.specs.Step as step
 use Rattle.shelf.specs.Step.{WalkStep}
 use Rattle.shelf.specs.Cursor.{Walks}
 use Rattle.lookup.specs.Gather.{Finds as FindsLists}
+use Rattle.lookup.specs.Show.{Span}
 use Rattle.lookup.specs.declared.gather.Found.{Found}
+use Rattle.lent.specs.View.{IsPart, Shows}
+use Rattle.lent.specs.declared.view.BodyPart.{BodyPart}
 use Rattle.list.specs.Answer.{Gives}
 use Rattle.list.specs.Read.{Reads}
 use Rattle.query.specs.Query.{Question}
@@ -305,6 +308,22 @@ lists-one s terms n (Ok r) (Ok q) (ls, e, a) (ms, f, b) =
 lists-one s terms n (Ok r) (Err q) (ls, e, a) f = apart (sym f ∙ e)
 lists-one s terms n (Err r) (Ok q) e (ms, f, b) = apart (sym e ∙ f)
 lists-one s terms n (Err r) (Err q) e f = ap Err (refused-one r q (sym e ∙ f))
+
+-- ---- `lent::view::body`
+
+-- a part of a slice: the same bytes of the same memory
+part-one : (s : Bor (List ℕ)) (p : Span) (r q : Bor (List ℕ)) → IsPart s p r → IsPart s p q → r ≡ q
+part-one s p r q a b = λ i. record { ref_ptr = ((a.block ∙ sym b.block) i, (a.place ∙ sym b.place) i); now = (a.bytes ∙ sym b.bytes) i }
+
+pub shows_one : (s : Bor (List ℕ)) (o : Outcome Span) (r q : Result BodyPart Refusal) → Shows s o r → Shows s o q → r ≡ q
+shows_one s o (Ok r) (Ok q) (e, a) (f, b) =
+    let z : done r.at ≡ done q.at = sym e ∙ f in
+    let at : r.at ≡ q.at = cc in
+    let bytes : r.bytes ≡ q.bytes = part-one s q.at r.bytes q.bytes (rw at at a) b in
+    λ i. Ok (record { bytes = bytes i; at = at i })
+shows_one s o (Ok r) (Err q) (e, a) f = apart (sym f ∙ e)
+shows_one s o (Err r) (Ok q) e (f, b) = apart (sym e ∙ f)
+shows_one s o (Err r) (Err q) e f = ap Err (refused-one {A = Span} r q (sym e ∙ f))
 
 -- ---- what fills lent runs: the writer, the edits and the converter; the reader
 
