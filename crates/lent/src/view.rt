@@ -1,21 +1,22 @@
 // A list as it stands in the lent shelf: the numbers of its summaries, and its bodies as parts of the shelf's own slice.
 ghost use Rattle.std.specs.Prelude.{◌≡◌};
+ghost use Rattle.model.specs.Outcome.{done};
 ghost use Rattle.model.specs.Refusal.{outcome_of};
 ghost use Rattle.shelf.specs.Answers.{placed};
 ghost use Rattle.lookup.specs.Find.{found};
-ghost use Rattle.lookup.specs.Show.{summary_shown, body_shown};
-ghost use Rattle.lent.specs.View.{Shows};
+ghost use Rattle.lookup.specs.Show.{summary_shown, ShownOf};
+ghost use Rattle.lent.specs.View.{BodyOf};
 
 use block::summary::Summary;
 use lookup::find::Span;
 use model::refusal::Refusal;
 use shelf::walk::Place;
 
-// The shelf itself, and the list's place in it or the refusal.
+// The shelf itself, and the list's place in it; or the refusal, or an error of the caller's own, in its stead.
 #[derive(Drop)]
-pub struct ListView<'a> {
+pub struct ListView<'a, E = Refusal> {
     pub shelf: &'a [u8],
-    pub place: Result<Place, Refusal>,
+    pub place: Result<Place, E>,
 }
 
 // The list of a term, shown in place: 6 and 7, then 12.
@@ -26,9 +27,9 @@ pub fn view<'a>(shelf: &'a [u8], term: u32) -> ListView<'a>
     ListView { shelf, place }
 }
 
-// The numbers of the summary of block `j`: the view's refusal, or 12 where the block is not there.
-pub fn summary<'a>(v: ListView<'a>, j: usize) -> Result<Summary, Refusal>
-    ensures { outcome_of result ≡ summary_shown v.entry.shelf.now (outcome_of v.entry.place) j }
+// The numbers of the summary of block `j`: the view's error, or 12 where the block is not there.
+pub fn summary<'a, E: From<Refusal>>(v: ListView<'a, E>, j: usize) -> Result<Summary, E>
+    ensures { ShownOf E.from_gives v.entry.place (λ p. summary_shown v.entry.shelf.now (done p) j) result }
 {
     lookup::find::summary_shown(v.shelf, v.place, j)
 }
@@ -40,9 +41,9 @@ pub struct BodyPart<'a> {
     pub at: Span,
 }
 
-// The body of block `j`: the view's refusal, or 12 where the block is not there.
-pub fn body<'a>(v: ListView<'a>, j: usize) -> Result<BodyPart<'a>, Refusal>
-    ensures { Shows v.entry.shelf (body_shown v.entry.shelf.now (outcome_of v.entry.place) j) result }
+// The body of block `j`: the view's error, or 12 where the block is not there.
+pub fn body<'a, E: From<Refusal>>(v: ListView<'a, E>, j: usize) -> Result<BodyPart<'a>, E>
+    ensures { BodyOf E.from_gives v.entry.shelf v.entry.place j result }
 {
     let at = lookup::find::body_shown(v.shelf, v.place, j)?;
     let bytes = &v.shelf[at.start..at.end];

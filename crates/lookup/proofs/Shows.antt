@@ -1,7 +1,7 @@
 -- A list shown in place, by the tests that the code makes. Assumes nothing.
 use Prim.Native.Nat.{ℕ, ◌+◌, ◌*◌, ◌-◌, ◌≤◌, ◌<◌}
 use native.Mathlib.Omega.{arith}
-use mathlib.Core.Path.{◌≡◌, refl}
+use mathlib.Core.Path.{◌≡◌, refl, sym}
 use mathlib.Core.List.{List}
 use mathlib.Core.Bool.{true, false}
 use borrow.Author.Tests.{leb-true, leb-false, ltb-true, le-leb, lt-leb, lt-ltb, le-ltb}
@@ -9,14 +9,17 @@ use lib.Dec.{leb, ltb}
 use lib.ListN.{length, drop}
 use Rattle.model.proofs.Lists.{split, and-true}
 use Rattle.wire.specs.Field.{field_at}
-use Rattle.std.specs.Prelude.{Some, None}
+use Rattle.std.specs.Prelude.{Some, None, Result, Ok, Err}
 use Rattle.wire.proofs.Fields.{field_is, field-not}
 use Rattle.block.specs.Summary.{sum_of}
+use Rattle.block.specs.declared.summary.Summary.{Summary}
 use Rattle.block.specs.Body.{is_strip, tag_of}
 use Rattle.shelf.specs.Walk.{bodies}
-use Rattle.lookup.specs.Show.{bodies_from, has_block, summary_shown, part_at, body_shown}
+use Rattle.lookup.specs.Show.{bodies_from, has_block, summary_shown, Span, part_at, body_shown, Shown, ShownOf}
 use Rattle.shelf.specs.declared.walk.Place.{Place}
-use Rattle.model.specs.Outcome.{refused, done}
+use Rattle.model.specs.Outcome.{Outcome, refused, done}
+use Rattle.model.specs.Refusal.{number, outcome_of}
+use Rattle.model.specs.declared.refusal.Refusal.{Refusal}
 
 -- ---- whether there is a block
 
@@ -87,3 +90,19 @@ module _ (s : List ℕ) (b : ℕ) where
   pub part_none : field_at (tag_of (is_strip (drop b s))) s b ≡ None → part_at s b ≡ refused 12 0
   unfolding part_at
   part_none e = rw (field-not (tag_of (is_strip (drop b s))) s b e)
+
+-- ---- an answer whose error is the caller's own: where that is a refusal, and is made of itself
+
+own_refusal : {A : Type 0} (o : Outcome A) (result : Result A Refusal) → Shown (λ r y. y ≡ r) o result → outcome_of result ≡ o
+own_refusal o (Ok x) h = sym h
+own_refusal o (Err y) (r, e, q) = rw q (sym e)
+
+pub summary_own : (s : List ℕ) (shown : Result Place Refusal) (j : ℕ) (result : Result Summary Refusal) → ShownOf (λ r y. y ≡ r) shown (λ p. summary_shown s (done p) j) result
+    → outcome_of result ≡ summary_shown s (outcome_of shown) j
+summary_own s (Ok p) j result h = own_refusal (summary_shown s (done p) j) result h
+summary_own s (Err e) j result h = rw h (sym (summary-refused s (number e.fault) e.offset j))
+
+pub body_own : (s : List ℕ) (shown : Result Place Refusal) (j : ℕ) (result : Result Span Refusal) → ShownOf (λ r y. y ≡ r) shown (λ p. body_shown s (done p) j) result
+    → outcome_of result ≡ body_shown s (outcome_of shown) j
+body_own s (Ok p) j result h = own_refusal (body_shown s (done p) j) result h
+body_own s (Err e) j result h = rw h (sym (body_refused s (number e.fault) e.offset j))

@@ -1,7 +1,9 @@
 -- "A list's reader shows its summaries and bodies as they stand in the lent shelf, without copying." For any place: where it is not of this
 -- shelf, what does not fit is 12. Assumes nothing.
-use Rattle.std.specs.Prelude.{ℕ, zero, suc, ◌+◌, ◌*◌, List, [], ◌∷◌, Bool, cond, ◌&&◌, leb, ltb, length, drop}
+use Rattle.std.specs.Prelude.{ℕ, zero, suc, ◌+◌, ◌*◌, ◌≡◌, List, [], ◌∷◌, Bool, cond, ◌&&◌, leb, ltb, length, drop, Result, Ok, Err}
 use Rattle.model.specs.Outcome.{Outcome, refused, done}
+use Rattle.model.specs.Refusal.{number}
+use Rattle.model.specs.declared.refusal.Refusal.{Refusal}
 use Rattle.wire.specs.Field.{whole, field_len}
 use Rattle.block.specs.Summary.{sum_of}
 use Rattle.block.specs.Body.{is_strip, tag_of}
@@ -39,6 +41,18 @@ part_past s (refused n o) = refused 12 0
 unfoldable pub body_shown : List ℕ → Outcome Place → ℕ → Outcome Span
 body_shown s (refused n o) j = refused n o
 body_shown s (done p) j = cond (has_block s p j) (part_past s (bodies j (bodies_from p) (drop (bodies_from p) s))) (refused 12 0)
+
+-- ---- an answer whose error is the caller's own; `gives` says which error is made of a refusal
+
+-- the value; or an error that is made of the refusal
+abbrev pub Shown : {A E : Type 0} → (gives : Refusal → E → Type 0) → Outcome A → Result A E → Type 0
+Shown gives o (Ok x) = o ≡ done x
+Shown gives o (Err e) = (r : Refusal) × (o ≡ refused (number r.fault) r.offset) × gives r e
+
+-- what is shown of a list; an error that stands in its place is handed on as it is
+abbrev pub ShownOf : {A E : Type 0} → (gives : Refusal → E → Type 0) → Result Place E → (Place → Outcome A) → Result A E → Type 0
+ShownOf gives (Ok p) of result = Shown gives (of p) result
+ShownOf gives (Err e) of result = result ≡ Err e
 
 -- ---- the same in terms of a list's blocks
 

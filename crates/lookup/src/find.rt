@@ -1,9 +1,10 @@
 // A list by its term, and its blocks as they stand in the shelf.
 ghost use Rattle.std.specs.Prelude.{◌≡◌};
+ghost use Rattle.model.specs.Outcome.{done};
 ghost use Rattle.model.specs.Refusal.{outcome_of};
 ghost use Rattle.shelf.specs.Answers.{placed};
 ghost use Rattle.lookup.specs.Find.{here_or, found};
-ghost use Rattle.lookup.specs.Show.{has_block, part_at, summary_shown, body_shown};
+ghost use Rattle.lookup.specs.Show.{has_block, part_at, summary_shown, body_shown, ShownOf};
 
 use block::summary::Summary;
 use model::refusal::{Fault, Refusal};
@@ -47,16 +48,27 @@ fn has_block(s: &[u8], list: Place, j: usize) -> bool
     list.at <= s.len() - room
 }
 
-// The numbers of the summary of block `j` of a list shown in place; or the refusal that was answered in place of the list.
-pub fn summary_shown(s: &[u8], shown: Result<Place, Refusal>, j: usize) -> Result<Summary, Refusal>
-    ensures { outcome_of result ≡ summary_shown s.now (outcome_of shown) j }
+// The numbers of the summary of block `j` of a list.
+fn summary_of(s: &[u8], list: Place, j: usize) -> Result<Summary, Refusal>
+    ensures { outcome_of result ≡ summary_shown s.now (done list) j }
 {
-    let list = shown?;
     if !has_block(s, list, j) {
         return Err(Fault::Absent.at(0));
     }
     let strip = block::body::is_strip(s, list.at + 8 + 12 * (list.count as usize));
     Ok(block::summary::summary_in(s, list.at + 8 + 12 * j, strip))
+}
+
+// The numbers of the summary of block `j` of a list shown in place; or the caller's error that stands in place of the list.
+pub fn summary_shown<E: From<Refusal>>(
+    s: &[u8],
+    shown: Result<Place, E>,
+    j: usize,
+) -> Result<Summary, E>
+    ensures { ShownOf E.from_gives shown (λ p. summary_shown s.now (done p) j) result }
+{
+    let list = shown?;
+    Ok(summary_of(s, list, j)?)
 }
 
 // A part of the shelf: where it starts, and the place past it.
@@ -81,11 +93,10 @@ fn part_at(s: &[u8], at: usize) -> Result<Span, Refusal>
     })
 }
 
-// Where the value of the body of block `j` of a list shown in place stands: past the bodies before it.
-pub fn body_shown(s: &[u8], shown: Result<Place, Refusal>, j: usize) -> Result<Span, Refusal>
-    ensures { outcome_of result ≡ body_shown s.now (outcome_of shown) j }
+// Where the value of the body of block `j` of a list stands: past the bodies before it.
+fn body_of(s: &[u8], list: Place, j: usize) -> Result<Span, Refusal>
+    ensures { outcome_of result ≡ body_shown s.now (done list) j }
 {
-    let list = shown?;
     if !has_block(s, list, j) {
         return Err(Fault::Absent.at(0));
     }
@@ -93,4 +104,12 @@ pub fn body_shown(s: &[u8], shown: Result<Place, Refusal>, j: usize) -> Result<S
         return Err(Fault::Absent.at(0));
     };
     part_at(s, at)
+}
+
+// Where the value of the body of block `j` of a list shown in place stands; or the caller's error that stands in place of the list.
+pub fn body_shown<E: From<Refusal>>(s: &[u8], shown: Result<Place, E>, j: usize) -> Result<Span, E>
+    ensures { ShownOf E.from_gives shown (λ p. body_shown s.now (done p) j) result }
+{
+    let list = shown?;
+    Ok(body_of(s, list, j)?)
 }

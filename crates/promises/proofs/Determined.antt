@@ -34,9 +34,11 @@ use Rattle.shelf.specs.Step as step
 use Rattle.shelf.specs.Step.{WalkStep}
 use Rattle.shelf.specs.Cursor.{Walks}
 use Rattle.lookup.specs.Gather.{Finds as FindsLists}
-use Rattle.lookup.specs.Show.{Span}
+use Rattle.lookup.specs.Show.{Span, summary_shown, body_shown, Shown, ShownOf}
+use Rattle.lookup.proofs.Shows.{summary_own, body_own}
 use Rattle.lookup.specs.declared.gather.Found.{Found}
-use Rattle.lent.specs.View.{IsPart, Shows}
+use Rattle.lent.specs.View.{IsPart, Shows, span_in, PartIn, BodyOf}
+use Rattle.lent.proofs.Parts.{shows_own}
 use Rattle.lent.specs.declared.view.BodyPart.{BodyPart}
 use Rattle.list.specs.Answer.{Gives}
 use Rattle.list.specs.Read.{Reads}
@@ -309,21 +311,61 @@ lists-one s terms n (Ok r) (Err q) (ls, e, a) f = apart (sym f ∙ e)
 lists-one s terms n (Err r) (Ok q) e (ms, f, b) = apart (sym e ∙ f)
 lists-one s terms n (Err r) (Err q) e f = ap Err (refused-one r q (sym e ∙ f))
 
--- ---- `lent::view::body`
+-- ---- a list shown in place: `lookup::find::{summary_shown, body_shown}`, `lent::view::{summary, body}`
 
 -- a part of a slice: the same bytes of the same memory
 part-one : (s : Bor (List ℕ)) (p : Span) (r q : Bor (List ℕ)) → IsPart s p r → IsPart s p q → r ≡ q
 part-one s p r q a b = λ i. record { ref_ptr = ((a.block ∙ sym b.block) i, (a.place ∙ sym b.place) i); now = (a.bytes ∙ sym b.bytes) i }
 
-pub shows_one : (s : Bor (List ℕ)) (o : Outcome Span) (r q : Result BodyPart Refusal) → Shows s o r → Shows s o q → r ≡ q
-shows_one s o (Ok r) (Ok q) (e, a) (f, b) =
-    let z : done r.at ≡ done q.at = sym e ∙ f in
+body_same : {E : Type 0} (s : Bor (List ℕ)) (r q : Result BodyPart E) → span_in r ≡ span_in q → PartIn s r → PartIn s q → r ≡ q
+body_same s (Ok r) (Ok q) e a b =
     let at : r.at ≡ q.at = cc in
     let bytes : r.bytes ≡ q.bytes = part-one s q.at r.bytes q.bytes (rw at at a) b in
     λ i. Ok (record { bytes = bytes i; at = at i })
+body_same s (Ok r) (Err q) e a b = never (cc)
+body_same s (Err r) (Ok q) e a b = never (cc)
+body_same s (Err r) (Err q) e a b = let z : r ≡ q = cc in ap Err z
+
+-- for a caller's own error, where of a refusal one error is made
+module _ {E : Type 0} (gives : Refusal → E → Type 0) (one : (r : Refusal) (x y : E) → gives r x → gives r y → x ≡ y) where
+  shown_same : {A : Type 0} (o : Outcome A) (r q : Result A E) → Shown gives o r → Shown gives o q → r ≡ q
+  shown_same o (Ok x) (Ok y) e f =
+      let z : done x ≡ done y = sym e ∙ f in
+      let same : x ≡ y = cc in ap Ok same
+  shown_same o (Ok x) (Err y) e (t, f, k) = apart (sym f ∙ e)
+  shown_same o (Err x) (Ok y) (t, e, h) f = apart (sym e ∙ f)
+  shown_same {A = A} o (Err x) (Err y) (t, e, h) (u, f, k) =
+      let same : t ≡ u = refused-one {A = A} t u (sym e ∙ f) in ap Err (one u x y (rw same at h) k)
+
+  pub shown_one : {A : Type 0} (place : Result Place E) (of : Place → Outcome A) (r q : Result A E) → ShownOf gives place of r → ShownOf gives place of q → r ≡ q
+  shown_one (Ok p) of r q a b = shown_same (of p) r q a b
+  shown_one (Err e) of r q a b = a ∙ sym b
+
+  pub body_one : (s : Bor (List ℕ)) (place : Result Place E) (j : ℕ) (r q : Result BodyPart E) → BodyOf gives s place j r → BodyOf gives s place j q → r ≡ q
+  body_one s place j r q a b = body_same s r q (shown_one place (λ p. body_shown s.now (done p) j) (span_in r) (span_in q) a.span b.span) a.part b.part
+
+-- where the error is a refusal, by the outcome
+abbrev Itself : Refusal → Refusal → Type 0
+Itself r y = y ≡ r
+
+pub summary_one : (s : List ℕ) (place : Result Place Refusal) (j : ℕ) (r q : Result Summary Refusal) → ShownOf Itself place (λ p. summary_shown s (done p) j) r
+    → ShownOf Itself place (λ p. summary_shown s (done p) j) q → r ≡ q
+summary_one s place j r q a b = outcome-one r q (summary_own s place j r a ∙ sym (summary_own s place j q b))
+
+pub span_one : (s : List ℕ) (place : Result Place Refusal) (j : ℕ) (r q : Result Span Refusal) → ShownOf Itself place (λ p. body_shown s (done p) j) r
+    → ShownOf Itself place (λ p. body_shown s (done p) j) q → r ≡ q
+span_one s place j r q a b = outcome-one r q (body_own s place j r a ∙ sym (body_own s place j q b))
+
+pub shows_one : (s : Bor (List ℕ)) (o : Outcome Span) (r q : Result BodyPart Refusal) → Shows s o r → Shows s o q → r ≡ q
+shows_one s o (Ok r) (Ok q) (e, a) (f, b) =
+    let z : done r.at ≡ done q.at = sym e ∙ f in
+    let at : r.at ≡ q.at = cc in body_same {E = Refusal} s (Ok r) (Ok q) (ap Ok at) a b
 shows_one s o (Ok r) (Err q) (e, a) f = apart (sym f ∙ e)
 shows_one s o (Err r) (Ok q) e (f, b) = apart (sym e ∙ f)
 shows_one s o (Err r) (Err q) e f = ap Err (refused-one {A = Span} r q (sym e ∙ f))
+
+pub body_own_one : (s : Bor (List ℕ)) (place : Result Place Refusal) (j : ℕ) (r q : Result BodyPart Refusal) → BodyOf Itself s place j r → BodyOf Itself s place j q → r ≡ q
+body_own_one s place j r q a b = shows_one s (body_shown s.now (outcome_of place) j) r q (shows_own s place j r a) (shows_own s place j q b)
 
 -- ---- what fills lent runs: the writer, the edits and the converter; the reader
 
