@@ -3,8 +3,8 @@ use native.Mathlib.Omega.{arith}
 use native.Mathlib.Numerals.{add-one}
 use Prim.Native.Nat.{ℕ, zero, suc, ◌+◌, ◌≤◌, ◌<◌, min}
 use mathlib.Core.Path.{◌≡◌, refl, sym, ap, ◌∙◌}
-use mathlib.Core.List.{List, [], ◌∷◌, ◌++◌, append-nil}
-use lib.ListN.{length, set, take, drop, get_or, length-take, drop_of_length-le}
+use mathlib.Core.List.{List, [], ◌∷◌, ◌++◌, append-nil, map}
+use lib.ListN.{length, set, take, drop, get_or, length-append, length-drop, length-map, length-take, drop_of_length-le}
 use lib.Dec.{leb}
 use lib.Seq.{take_all, take-take, length-take-le}
 use borrow.Author.Tests.{leb-true, leb-false}
@@ -16,10 +16,13 @@ use Rattle.rank.specs.Rank as rank
 use Rattle.rank.specs.Keep.{kept_of, keeper}
 use Rattle.rank.specs.declared.keep.Kept.{Kept}
 use Rattle.prune.proofs.Rooms.{Within}
-use Rattle.lent.specs.Rows.{with_hits, Rowed, Counts}
+use Rattle.lent.specs.Rows.{row_of, with_hits, Rowed, Counts}
 use Rattle.lent.specs.declared.rows.Hit.{Hit}
 
 -- ---- rows with hits in front
+
+pub length_with : (hs : List rank.Hit) (l : List Hit) → length hs ≤ length l → length (with_hits hs l) ≡ length l
+length_with hs l le = omega (arith, length-append (map row_of hs) (drop (length hs) l), length-map hs row_of, length-drop (length hs) l, le)
 
 -- the rows up to the last hit, and those past them
 with-front : (hs : List rank.Hit) (n : ℕ) (l : List Hit) → length hs ≡ n → n ≤ length l → with_hits hs (take n l) ++ drop n l ≡ with_hits hs l
@@ -50,6 +53,18 @@ cut_at hs m n e =
     (λ l. let same : n ≡ m = omega (arith, leb-true m (length hs) l) in ap (λ (k : ℕ). take k hs) same)
     (λ l. take_all n hs (omega (arith, leb-false m (length hs) l)) ∙ sym (take_all m hs (omega (arith, leb-false m (length hs) l))))
 
+-- n of them are to be written into m rows
+module _ (t : Kept) (m n : ℕ) (h : Counts t m n) where
+  pub held_rows : n ≤ m
+  held_rows = omega (arith, h.count)
+
+  pub first_with : (i : ℕ) (l : List Hit) → i ≤ n → length l ≡ m → length (with_hits (first_hits t i) l) ≡ length l
+  first_with i l le e = length_with (first_hits t i) l (omega (arith, length-take i (postings t.docids t.scores), held_rows))
+
+  pub first-all : first_hits t n ≡ take m (kept_of t)
+  first-all =
+      sym (take-take n t.n (postings t.docids t.scores) (omega (arith, length-take t.n (postings t.docids t.scores), h.count))) ∙ cut_at (kept_of t) m n h.count
+
 -- n of them are to be written into the rows l
 module _ (t : Kept) (l : List Hit) (n : ℕ) (h : Counts t (length l) n) where
   abbrev ps : List rank.Hit
@@ -58,14 +73,11 @@ module _ (t : Kept) (l : List Hit) (n : ℕ) (h : Counts t (length l) n) where
   pub one_more : (i : ℕ) → i < length (take n l) → set (with_hits (first_hits t i) (take n l)) i (hit_at t i) ≡ with_hits (first_hits t (i + 1)) (take n l)
   one_more i lt = rw add-one (turn t.docids t.scores i (take n l) (omega (arith, length-take n l, length-take t.n ps, h.count)) lt)
 
-  pub first-all : first_hits t n ≡ take (length l) (kept_of t)
-  first-all = sym (take-take n t.n ps (omega (arith, length-take t.n ps, h.count))) ∙ cut_at (kept_of t) (length l) n h.count
-
   pub all_written : (i : ℕ) → i ≡ length (take n l) → with_hits (first_hits t i) (take n l) ++ drop n l ≡ with_hits (take (length l) (kept_of t)) l
   all_written i e =
       let f : i ≡ n = omega (arith, length-take n l, h.count) in
       let size : length (first_hits t n) ≡ n = omega (arith, length-take n ps, length-take t.n ps, h.count) in
-      rw f (with-front (first_hits t n) n l size (omega (arith, h.count)) ∙ ap (λ hs. with_hits hs l) first-all)
+      rw f (with-front (first_hits t n) n l size (omega (arith, h.count)) ∙ ap (λ hs. with_hits hs l) (first-all t (length l) n h))
 
 -- a keeper's two runs end at 100
 pub held_as : (t : Kept) (m n : ℕ) → length t.docids ≡ 100 → length t.scores ≡ 100 → n ≡ min (min t.n 100) m → Counts t m n
